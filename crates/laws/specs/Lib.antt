@@ -1,0 +1,13 @@
+pub mod Signed
+pub mod Sum
+pub mod Each
+pub mod Count
+pub mod Fill
+pub mod Fuel
+pub mod Search
+pub mod Walk
+pub mod Circle
+pub mod Rewire
+pub mod Chain
+pub mod CircleScan
+pub mod Example

@@ -1,0 +1,1 @@
+// Laws alone, and no code: specs/ has them.
