@@ -1,32 +1,23 @@
--- 0 leads to 1, 1 to 2, 2 to 1, 3 to 0, and 4 to none: the circle is 1 and 2.
+-- Three jobs in a row and two in a circle: 0 waits for 1, 1 for 2, 2 for 1, 3 for 0, and 4 for nobody. Assumes nothing.
 use Prim.Native.Nat.{ℕ}
 use mathlib.Core.Path.{_≡_, refl}
-use mathlib.Core.Bool.{true, false}
 use mathlib.Core.List.{[], _∷_}
+use native.Mathlib.Omega.{arith}
 use lib.ListN.{getD}
 use Rattle.laws.specs.Walk.{step, follow}
-use Rattle.laws.specs.Chain.{chain}
-use Rattle.laws.specs.CircleScan.{comesBy, onCircle, leastOf, lowest}
+use Rattle.laws.specs.Circle.{OnCircle}
 
-abbrev pub sample : ℕ → ℕ
-sample k = getD (1 ∷ 2 ∷ 1 ∷ 0 ∷ 255 ∷ []) k 255
+abbrev waits : ℕ → ℕ
+waits k = getD (1 ∷ 2 ∷ 1 ∷ 0 ∷ 255 ∷ []) k 255
 
-pub sample-on : onCircle sample 32 2 ≡ true
-unfolding onCircle comesBy
-sample-on = refl
-
-pub sample-off : onCircle sample 32 3 ≡ false
-unfolding onCircle comesBy
-sample-off = refl
-
-pub sample-lowest : lowest sample 32 2 ≡ 1
-unfolding lowest leastOf step
-sample-lowest = refl
-
-pub sample-chain : chain sample 32 4 4 ≡ 4 ∷ []
-unfolding chain
-sample-chain = refl
-
-pub sample-follow : follow sample 32 7 3 ≡ 2
+seven-steps : follow waits 32 7 3 ≡ 2
 unfolding follow step
-sample-follow = refl
+seven-steps = refl
+
+leaves : follow waits 32 3 4 ≡ 255
+unfolding follow step
+leaves = refl
+
+circle : OnCircle waits 32 2
+unfolding follow step
+circle = record { node = omega arith; steps = 2; some-steps = omega arith; back = refl }

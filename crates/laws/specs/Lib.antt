@@ -8,6 +8,4 @@ pub mod Search
 pub mod Walk
 pub mod Circle
 pub mod Rewire
-pub mod Chain
-pub mod CircleScan
 pub mod Example

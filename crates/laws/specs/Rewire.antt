@@ -75,20 +75,3 @@ module _ {f g : ℕ → ℕ} {n : ℕ} where
   cutting change every = record {
     never = λ i c. let r = every i (cut-circle change c) in omega (arith, cut-circle-whole change c (r .0), r .1);
   }
-
-  -- ADDING: where only node v is changed, and no circle was, every circle goes through v,
-  pub through-changed : (v : ℕ) → ((k : ℕ) → k < n → (k ≡ v → ⊥) → g k ≡ f k) → NoCircle f n → {i : ℕ} → OnCircle g n i → Reaches g n i v
-  through-changed v same none {i} c = elim (search-below (λ m. ℕ-discrete (follow g n m i) v) n) [
-    | inl r ↦ record { after = r .0; there = r .2 }
-    | inr past ↦ absurd (none .never i (old past))
-  ]
-    where
-      old : ((m : ℕ) → m < n → follow g n m i ≡ v → ⊥) → OnCircle f n i
-      old past =
-          let avoids : (m : ℕ) → follow g n m i ≡ v → ⊥ = λ m e. let s = reached-soon c (record { after = m; there = e }) in past (s .0) (s .1) (s .2) in
-          let walk : (m : ℕ) → follow g n m i ≡ follow f n m i = same-walk f g n i (λ m h. same (follow g n m i) h (avoids m)) in
-          record { node = c .node; steps = c .steps; some-steps = c .some-steps; back = sym (walk (c .steps)) ∙ c .back }
-
-  -- so it is enough to look at v
-  pub adding : (v : ℕ) → ((k : ℕ) → k < n → (k ≡ v → ⊥) → g k ≡ f k) → NoCircle f n → (OnCircle g n v → ⊥) → NoCircle g n
-  adding v same none clear = record { never = λ i c. clear (circle-of-reached c (through-changed v same none c)) }
