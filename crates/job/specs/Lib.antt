@@ -1,0 +1,10 @@
+pub mod Times
+pub mod Held
+pub mod Job
+pub mod Example
+pub mod Entry
+pub mod Grant
+pub mod Run
+pub mod Rollback
+pub mod Fit
+pub mod Part
