@@ -1,0 +1,17 @@
+pub mod Fields
+pub mod Sticks
+pub mod Loops
+pub mod Layout
+pub mod Rules
+pub mod Holders
+pub mod Kept
+pub mod Headers
+pub mod Requests
+pub mod HeldLists
+pub mod SignedFields
+pub mod Curves
+pub mod JobRecords
+pub mod Exactly
+pub mod Good
+pub mod Places
+pub mod Spans

@@ -1,0 +1,74 @@
+-- `book::reader::records_read` meets its contract. The invariant: the locals together are the state of the definition after i turns of `recordNext`. Assumes nothing.
+use Prim.Native.Nat.{_-_}
+use borrow.Author.Needs.{needs}
+use Rattle.laws.specs.Count.{Counting, count-begin, count-next, count-ended}
+use Rattle.book.specs.Format.{recordNext, noRecords, recordsRead}
+use Rattle.book.proofs.reader.records_read.Statement.{statement}
+use Rattle.book.proofs.reader.records_read.Tie as tie
+
+abbrev Inv-loop : tie.InvT-loop
+Inv-loop s jobs resources reading₀ records₀ holders₀ spans₀ i₀ reading records holders spans i =
+    Counting (recordNext s resources) jobs
+    (record { reading = reading₀; records = records₀; holders = holders₀; spans = spans₀ })
+    (record { reading = reading; records = records; holders = holders; spans = spans })
+    i
+
+abbrev μ-loop : tie.MeasureT-loop
+μ-loop s jobs resources reading₀ records₀ holders₀ spans₀ i₀ reading records holders spans i = jobs - i
+
+no-record-requires : tie.Need-no-record-requires Inv-loop μ-loop
+no-record-requires c κs = search needs
+
+loop-holds : tie.Need-loop-holds Inv-loop μ-loop
+loop-holds c = count-begin
+
+cast-record-read : tie.Need-cast-record-read Inv-loop μ-loop
+cast-record-read c = search needs
+
+record-read-requires : tie.Need-record-read-requires Inv-loop μ-loop
+record-read-requires c κs = search needs
+
+mul-records : tie.Need-mul-records Inv-loop μ-loop
+mul-records c = search needs
+
+array-set-from-records : tie.Need-array-set-from-records Inv-loop μ-loop
+array-set-from-records c = search needs
+
+mul-spans : tie.Need-mul-spans Inv-loop μ-loop
+mul-spans c = search needs
+
+array-set-from-spans : tie.Need-array-set-from-spans Inv-loop μ-loop
+array-set-from-spans c = search needs
+
+add-i : tie.Need-add-i Inv-loop μ-loop
+add-i c = search needs
+
+loop-less : tie.Need-loop-less Inv-loop μ-loop
+loop-less c = search needs
+
+loop-again : tie.Need-loop-again Inv-loop μ-loop
+unfolding recordNext
+loop-again c = count-next (c .before .before .before .before .before .loop .inv) (c .before .before .before .before .loop-test .taken) (rw (← c .before .before .before .record-read .ensures))
+
+returns : tie.Need-returns Inv-loop μ-loop
+unfolding recordsRead noRecords
+returns c = rw (c .before .before .no-record .ensures) at (count-ended (c .before .loop .inv) (c .loop-test .left))
+
+pub records-read-spec : {M : Type 1} → statement M
+records-read-spec =
+    tie.close
+    (tie.spec
+    Inv-loop
+    μ-loop
+    no-record-requires
+    loop-holds
+    cast-record-read
+    record-read-requires
+    mul-records
+    array-set-from-records
+    mul-spans
+    array-set-from-spans
+    add-i
+    loop-less
+    loop-again
+    returns)

@@ -1,0 +1,9 @@
+pub mod Refusal
+pub mod Field
+pub mod Rules
+pub mod Twos
+pub mod Format
+pub mod Onward
+pub mod Question
+pub mod Spans
+pub mod Example

@@ -1,0 +1,64 @@
+// The job book's reader: any string of bytes gives the book's records, or a refusal with a number and a place (01, "The job book", "What a refusal says").
+use curve::Curve;
+use job::Request;
+
+pub mod field; // field.rt: one field, and one further rule
+pub mod rules; // rules.rt: the rules that are more than a range
+pub mod request; // request.rt: rollback times and the request
+pub mod held; // held.rt: the held list
+pub mod pieces; // pieces.rt: the curve
+pub mod reader; // reader.rt: header, records, the whole book
+pub mod question; // question.rt: one job's record as a part of the book
+
+// Where the reader stands. number: 0, or the refusal's. place: the last field's first byte, or the refusal's place.
+// next: the byte after the last field. value: the last field's value.
+pub struct Reading {
+    pub number: u8,
+    pub place: usize,
+    pub next: usize,
+    pub value: usize,
+}
+
+pub struct Header {
+    pub reading: Reading,
+    pub jobs: usize,
+    pub resources: usize,
+    pub now: usize,
+}
+
+// One line of a held list.
+pub struct Entry {
+    pub resource: u8,
+    pub hold: u16,
+    pub rollback: u16,
+}
+
+// One job's record, in book order: entries 0 .. holds of held are the held list.
+pub struct Record {
+    pub mode: u8,
+    pub run: u16,
+    pub rollback: u16,
+    pub request: Request,
+    pub holds: usize,
+    pub held: [Entry; 32],
+    pub curve: Curve,
+}
+
+// The bytes of a record: from start up to end.
+pub struct Span {
+    pub start: usize,
+    pub end: usize,
+}
+
+// number: 0, or the refusal's, and then place is its place and the rest is empty.
+// Records and spans stand by job number, 0 .. jobs; holders by resource, 255 where nobody holds it.
+pub struct Book {
+    pub number: u8,
+    pub place: usize,
+    pub now: u32,
+    pub jobs: usize,
+    pub resources: usize,
+    pub records: [Record; 32],
+    pub holders: [u8; 32],
+    pub spans: [Span; 32],
+}

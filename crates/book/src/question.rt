@@ -1,0 +1,79 @@
+// The record question: one job's record as a part of the lent book (01, "Forms for specific places").
+ghost use mathlib.Core.Path.{_≡_};
+ghost use Prim.Native.Nat.{_-_, _≤_};
+ghost use lib.ListN.{length, getD, take, drop};
+ghost use Rattle.book.specs.Format.{noSpan};
+ghost use Rattle.book.specs.Question.{foundIn, Answers};
+use crate::Span;
+use crate::reader::read_book;
+
+pub struct Found {
+    pub number: u8,
+    pub place: usize,
+    pub start: usize,
+    pub end: usize,
+}
+
+// number and place: the refusal's, or 0 and 0. part: the record, and empty where there is none.
+pub struct RecordAnswer<'a> {
+    pub number: u8,
+    pub place: usize,
+    pub part: &'a [u8],
+}
+
+fn found_at(number: u8, place: usize, start: usize, end: usize) -> Found
+    ensures { λ r. ⌜ r ≡ record { number = number; place = place; start = start; end = end } ⌝ }
+{
+    Found {
+        number,
+        place,
+        start,
+        end,
+    }
+}
+
+fn span_at(spans: [Span; 32], job: usize) -> Span
+    ensures { λ r. ⌜ r ≡ getD spans job noSpan ⌝ }
+{
+    if job < 32 {
+        spans[job]
+    } else {
+        Span { start: 0, end: 0 }
+    }
+}
+
+// Where the record of a job stands in the book, or the refusal; 0 to 0 where there is none.
+pub fn find_record(s: &[u8], job: usize) -> Found
+    ensures { λ r. ⌜ r ≡ foundIn (now (s .entry)) job ⌝ }
+{
+    let b = read_book(s);
+    if 0 < b.number {
+        return found_at(b.number, b.place, 0, 0);
+    }
+    if b.jobs <= job {
+        return found_at(0, 0, 0, 0);
+    }
+    let spans = b.spans;
+    let span = span_at(spans, job);
+    found_at(0, 0, span.start, span.end)
+}
+
+fn part<'a>(s: &'a [u8], start: usize, end: usize) -> &'a [u8]
+    requires { ⌜ (start ≤ end) × (end ≤ length (now s)) ⌝ }
+    ensures { λ r. ⌜ now r ≡ take (end - start) (drop start (now (s .entry))) ⌝ }
+{
+    &s[start..end]
+}
+
+// One job's record as a part of the book, with the refusal beside it.
+pub fn record<'a>(s: &'a [u8], job: usize) -> RecordAnswer<'a>
+    ensures { λ r. ⌜ Answers (now (s .entry)) job (r .number) (r .place) (now (r .part)) ⌝ }
+{
+    let f = find_record(s, job);
+    let p = part(s, f.start, f.end);
+    RecordAnswer {
+        number: f.number,
+        place: f.place,
+        part: p,
+    }
+}

@@ -1,0 +1,10 @@
+pub mod State
+pub mod Waits
+pub mod View
+pub mod Course
+pub mod Choice
+pub mod Group
+pub mod Round
+pub mod Victims
+pub mod Plan
+pub mod Example

@@ -1,0 +1,12 @@
+pub mod Start
+pub mod Held
+pub mod Fit
+pub mod Sound
+pub mod Holders
+pub mod Falls
+pub mod Small
+pub mod Pay
+pub mod Modest
+pub mod Few
+pub mod Planned
+pub mod Opened

@@ -1,0 +1,133 @@
+-- The book of case 5: it is accepted and has no knot, so demand 3 holds of it. The machine on its answer, and on parts that make no sense.
+use mathlib.Core.Path.{_≡_, refl, ap}
+use mathlib.Core.Bool.{true, false, true≢false}
+use mathlib.Core.List.{List, [], _∷_}
+use Prim.Native.Nat.{ℕ}
+use native.Mathlib.Omega.{arith}
+use lib.IntN.{pos, natAbs}
+use lib.ListN.{replicate}
+use Rattle.laws.specs.Count.{upto}
+use Rattle.curve.specs.declared.Curve.{Curve}
+use Rattle.curve.specs.Worth.{noPiece, worthIn, worthAt}
+use Rattle.curve.specs.Density.{denserThan}
+use Rattle.job.specs.declared.Request.{Request}
+use Rattle.job.specs.Job.{granted, ran, rolledBack}
+use Rattle.book.specs.declared.Entry.{Entry}
+use Rattle.book.specs.declared.Book.{Book}
+use Rattle.book.specs.Field.{fieldOf, ruleOf, readAt, judged, valueAt}
+use Rattle.book.specs.Rules.{rollbackOk, requestOk, ifRequested, leastRollback, modeOk, signedOf, aroundOk, lineOk}
+use Rattle.book.specs.Format.{noEntry, noRecord, noSpan, bookOf, refusedBook, acceptedBook, headerOf, recordsRead, noRecords, recordNext, recordRead, tailRead, rollbackRead, requestRead, requestedResource, requestedRollback, heldRead, entryNext, entryRead, heldResource, unheldRead, curveRead, piecesRead, pieceNext, pieceRead, startRead, signedRead, endRead}
+use Rattle.gus.specs.State.{afterAll}
+use Rattle.gus.specs.Waits.{holderFrom, chainTo, chainOf}
+use Rattle.gus.specs.Course.{passed, credited, denser, toEnd}
+use Rattle.gus.specs.Choice.{reckonOne, reckon, byDensity}
+use Rattle.gus.specs.Group.{toFree, partOf, grow, groupOf}
+use Rattle.gus.specs.Round.{better, consider, bestOf, Plan, stop, rounds}
+use Rattle.gus.specs.Victims.{circleFrom, circleOf, lossOf, lesser, offer, victimOf, victimsTo, victimsOf, knotTo, knotOf, settled}
+use Rattle.gus.specs.Plan.{answerBy}
+use Rattle.opening.specs.Start.{heldFrom, jobFrom}
+use Rattle.opening.specs.Planned.{viewFrom, answerFrom}
+use Rattle.replay.specs.Machine.{MachineJob, Machine, nothing, withVictims, machineFrom, withRequest, stillHeld, payment, follow}
+use Rattle.replay.specs.View.{lists, holdOn, holderFrom as machineHolder}
+use Rattle.replay.specs.Moments.{doneBy}
+use Rattle.replay.specs.Sentences.{Demand3}
+use Rattle.replay.specs.Demand.{demand3}
+
+five : List ℕ
+five =
+    0 ∷ 66 ∷ 1 ∷ 2 ∷ 1 ∷ 0 ∷ 0 ∷ 0 ∷ 0
+    ∷ 0 ∷ 0 ∷ 6 ∷ 0 ∷ 2 ∷ 255 ∷ 0 ∷ 0 ∷ 0 ∷ 0 ∷ 1 ∷ 0 ∷ 0 ∷ 6 ∷ 0 ∷ 2 ∷ 1 ∷ 0 ∷ 0 ∷ 0 ∷ 0 ∷ 0 ∷ 0 ∷ 0 ∷ 0 ∷ 0 ∷ 0 ∷ 0 ∷ 0 ∷ 0 ∷ 100
+    ∷ 0 ∷ 0 ∷ 5 ∷ 0 ∷ 1 ∷ 0 ∷ 0 ∷ 5 ∷ 0 ∷ 1 ∷ 0 ∷ 1 ∷ 0 ∷ 0 ∷ 0 ∷ 0 ∷ 0 ∷ 0 ∷ 0 ∷ 22 ∷ 0 ∷ 0 ∷ 0 ∷ 0 ∷ 0 ∷ 100
+    ∷ []
+
+-- worth n up to 100
+abbrev flat : ℕ → Curve
+flat n = record { pieces = record { start = 0; value = pos n; slope = pos 0 } ∷ replicate 7 noPiece; count = 1; end = 100 }
+
+abbrev r0 : ℕ → ℕ → Entry
+r0 hold rollback = record { resource = 0; hold = hold; rollback = rollback }
+
+abbrev asksR0 : Request
+asksR0 = record { resource = 0; hold = 5; rollback = 1 }
+
+abbrev book : Book
+book = record {
+  number = 0;
+  place = 0;
+  now = 0;
+  jobs = 2;
+  resources = 1;
+  records =
+      record { mode = 0; run = 6; rollback = 2; request = nothing; holds = 1; held = r0 6 2 ∷ replicate 31 noEntry; curve = flat 0 }
+      ∷ record { mode = 0; run = 5; rollback = 1; request = asksR0; holds = 0; held = replicate 32 noEntry; curve = flat 22 }
+      ∷ replicate 30 noRecord;
+  holders = 0 ∷ replicate 31 255;
+  spans = record { start = 9; end = 40 } ∷ record { start = 40; end = 66 } ∷ replicate 30 noSpan;
+}
+
+book-read : bookOf five ≡ book
+unfolding five bookOf refusedBook acceptedBook headerOf recordsRead noRecords recordNext recordRead tailRead rollbackRead requestRead requestedResource requestedRollback heldRead entryNext entryRead heldResource unheldRead curveRead piecesRead pieceNext pieceRead startRead signedRead endRead fieldOf ruleOf readAt judged valueAt upto rollbackOk requestOk ifRequested leastRollback modeOk signedOf aroundOk lineOk
+book-read = refl
+
+knot-none : knotOf (viewFrom book) 0 ≡ 255
+unfolding heldFrom jobFrom knotOf knotTo victimOf offer lesser lossOf circleOf circleFrom denser denserThan holderFrom upto
+knot-none = refl
+
+-- THE HYPOTHESES CAN BE MET
+case5 : Demand3 byDensity (machineFrom (bookOf five) (answerFrom (bookOf five) .victims)) (answerFrom (bookOf five) .plan)
+case5 = demand3 five (rw book-read) (rw book-read (omega (arith, knot-none)))
+
+answer : answerFrom book ≡ record { victims = []; plan = record { parts = partOf 0 true 2 ∷ partOf 1 false 5 ∷ []; rounds = 1; total = pos 22; end = 7 } }
+unfolding heldFrom jobFrom worthAt worthIn answerBy victimsOf victimsTo victimOf offer lesser lossOf circleOf circleFrom settled rounds bestOf consider better groupOf grow toFree byDensity reckon reckonOne toEnd denser denserThan passed credited chainOf chainTo holderFrom afterAll upto granted ran rolledBack
+answer = refl
+
+-- THE MACHINE ON IT: where it starts,
+abbrev start : Machine
+start = machineFrom book []
+
+abbrev waiting : MachineJob
+waiting = record { rolling = false; run = 5; rollback = 1; request = asksR0; holds = []; curve = flat 22 }
+
+starts : start ≡ record { clock = 0; paid = pos 0; jobs = record { rolling = false; run = 6; rollback = 2; request = nothing; holds = r0 6 2 ∷ []; curve = flat 0 } ∷ waiting ∷ [] }
+unfolding withVictims
+starts = refl
+
+-- after the rollback part, which is not paid and frees r0,
+abbrev undone : MachineJob
+undone = record { rolling = true; run = 6; rollback = 0; request = nothing; holds = []; curve = flat 0 }
+
+rolls-back : follow start (partOf 0 true 2 ∷ []) ≡ record { clock = 2; paid = pos 0; jobs = undone ∷ waiting ∷ [] }
+unfolding withVictims follow stillHeld payment
+rolls-back = refl
+
+-- and after the normal one, which is given r0 and is paid at 7
+finishes : follow start (partOf 0 true 2 ∷ partOf 1 false 5 ∷ []) ≡ record { clock = 7; paid = pos 22; jobs = undone ∷ record { rolling = false; run = 0; rollback = 2; request = nothing; holds = []; curve = flat 22 } ∷ [] }
+unfolding withVictims follow withRequest stillHeld payment worthAt worthIn
+finishes = refl
+
+-- IT CHECKS NONE: a job that is not there, a finished one, more rollback than is left, and no time
+senseless : follow start (partOf 9 false 3 ∷ partOf 1 false 5 ∷ partOf 1 false 1 ∷ partOf 0 true 9 ∷ partOf 0 false 0 ∷ []) ≡ record { clock = 18; paid = pos 44; jobs = undone ∷ record { rolling = false; run = 0; rollback = 2; request = nothing; holds = []; curve = flat 22 } ∷ [] }
+unfolding withVictims follow withRequest stillHeld payment worthAt worthIn
+senseless = refl
+
+-- WHAT DEMAND 3 RULES OUT: no parts at all, since job 1 is left and is worth 22,
+idle : Demand3 byDensity start (stop 0) → ⊥
+unfolding withVictims follow lists holdOn machineHolder worthAt worthIn groupOf grow toFree byDensity reckon reckonOne toEnd denser denserThan passed credited chainOf chainTo
+idle d = true≢false (d .none-worthwhile 1 refl)
+
+-- an invented total,
+invented : Demand3 byDensity start (record { parts = partOf 0 true 2 ∷ partOf 1 false 5 ∷ []; rounds = 1; total = pos 23; end = 7 }) → ⊥
+unfolding withVictims follow withRequest stillHeld payment worthAt worthIn
+invented d = let e : _≡_ {A = ℕ} 22 23 = ap natAbs (d .pays-total) in omega arith
+
+-- and job 1 at once: job 0 holds what it asks for, and then r0 has two holders
+abbrev atOnce : Plan
+atOnce = record { parts = partOf 1 false 5 ∷ []; rounds = 1; total = pos 22; end = 5 }
+
+early : Demand3 byDensity start atOnce → ⊥
+unfolding withVictims follow lists
+early d = true≢false (d .starts-free 0 0 (omega arith) refl)
+
+shared : Demand3 byDensity start atOnce → ⊥
+unfolding withVictims follow withRequest stillHeld payment lists doneBy
+shared d = let e : _≡_ {A = ℕ} 0 1 = d .one-holder 2 0 1 0 refl refl in omega arith

@@ -1,0 +1,16 @@
+pub mod Machine
+pub mod View
+pub mod Lists
+pub mod Same
+pub mod Granted
+pub mod Agree
+pub mod Moments
+pub mod Sentences
+pub mod Parts
+pub mod Seen
+pub mod Bridge
+pub mod Listed
+pub mod Records
+pub mod Opening
+pub mod Demand
+pub mod Example
