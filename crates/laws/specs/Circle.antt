@@ -36,9 +36,6 @@ module _ {f : ℕ → ℕ} {n : ℕ} where
   pub reaches-self : (i : ℕ) → Reaches f n i i
   reaches-self i = record { after = 0; there = follow-zero f n i }
 
-  pub reaches-after : (k i : ℕ) → Reaches f n i (follow f n k i)
-  reaches-after k i = record { after = k; there = refl }
-
   pub reaches-trans : {i j k : ℕ} → Reaches f n i j → Reaches f n j k → Reaches f n i k
   reaches-trans {i} {j} {k} p q = record {
     after = p .after + q .after;
@@ -122,10 +119,6 @@ module _ {f : ℕ → ℕ} {n : ℕ} where
   pub reaches-back : {i j : ℕ} → OnCircle f n i → Reaches f n i j → Reaches f n j i
   reaches-back {i} {j} c r = rw (r .there) at (back-from-after (r .after) c)
 
-  -- ONE CIRCLE: two circles that share a member have the same members
-  pub same-members : {i j x k : ℕ} → OnCircle f n j → Reaches f n i x → Reaches f n j x → Reaches f n j k → Reaches f n i k
-  same-members c p q r = reaches-trans p (reaches-trans (reaches-back c q) r)
-
   -- SHORT: a circle comes back within n steps
   pub circle-short : {i : ℕ} → OnCircle f n i → (k : ℕ) × (1 ≤ k) × (k ≤ n) × (follow f n k i ≡ i)
   circle-short {i} c = go (c .steps) (c .steps) (omega arith) (c .some-steps) (c .back)
@@ -143,24 +136,6 @@ module _ {f : ℕ → ℕ} {n : ℕ} where
             go fuel (a + (k - b)) (omega (arith, r .before)) (omega (arith, r .before, r .within)) p
       ]
 
-  -- no short circle is no circle
-  pub no-circle-of-short : ((i k : ℕ) → i < n → 1 ≤ k → k ≤ n → follow f n k i ≡ i → ⊥) → NoCircle f n
-  no-circle-of-short none = record { never = λ i c. let s = circle-short c in none i (s .0) (c .node) (s .1) (s .2) (s .3) }
-
   -- where every walk ends there is no circle: paths-end the other way round
   pub no-circle-of-ends : ((i : ℕ) → i < n → Leaves f n i) → NoCircle f n
   no-circle-of-ends ends = record { never = λ i c. circle-not-left c (ends i (c .node)) }
-
-  -- a member of i's circle is reached in fewer than n steps
-  pub reached-soon : {i j : ℕ} → OnCircle f n i → Reaches f n i j → (k : ℕ) × (k < n) × (follow f n k i ≡ j)
-  reached-soon {i} {j} c r = go (r .after) (r .after) (omega arith) (r .there)
-    where
-      go : (fuel m : ℕ) → m ≤ fuel → follow f n m i ≡ j → (k : ℕ) × (k < n) × (follow f n k i ≡ j)
-      go zero m h e = (m, omega (arith, c .node), e)
-      go (suc fuel) m h e = elim (lt-or-le m n) [
-        | inl l ↦ (m, l, e)
-        | inr l ↦
-            let s = circle-short c in
-            let le : s .0 ≤ m = omega (arith, s .2) in
-            go fuel (m - s .0) (omega (arith, s .1)) (ap (follow f n (m - s .0)) (sym (s .3)) ∙ follow-part f n (s .0) m i le ∙ e)
-      ]

@@ -33,12 +33,6 @@ module _ {A : Type 0} where
   pub turn : (f : ℕ → A → A) (l a : List A) (i : ℕ) (d r : A) → i < length l → a ≡ done f i l → r ≡ f i (getD a i d) → set a i r ≡ done f (i + 1) l
   turn f l a i d r h e q = rw (q, e, add-one) (done-suc f l i d h)
 
-  -- an element that is not reached yet is as it was
-  pub at-done : (f : ℕ → A → A) (l : List A) (n : ℕ) (d : A) → getD (done f n l) n d ≡ getD l n d
-  at-done f l zero d = refl
-  at-done f [] (suc n) d = refl
-  at-done f (x ∷ l) (suc n) d = at-done (λ k. f (suc k)) l n d
-
   pub whole : (f : ℕ → A → A) (n : ℕ) (l : List A) → length l ≤ n → done f n l ≡ mapIx f l
   whole f zero [] h = refl
   whole f zero (x ∷ l) h = absurd (not-suc-le-zero h)
@@ -69,9 +63,6 @@ module _ {A : Type 0} {f : ℕ → A → A} {n : ℕ} {l : List A} where
     size = inv .size;
     so-far = turn f l a i d r (omega arith) (inv .so-far) q;
   }
-
-  pub size-now : {a : List A} {i : ℕ} → Doing f n l a i → length a ≡ n
-  size-now {a} {i} inv = rw (inv .so-far) (length-done f i l ∙ inv .size)
 
   pub ended-ix : {a : List A} {i : ℕ} → Doing f n l a i → n ≤ i → a ≡ mapIx f l
   ended-ix {a} {i} inv h = inv .so-far ∙ whole f i l (omega arith)

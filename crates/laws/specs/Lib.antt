@@ -1,9 +1,7 @@
 pub mod Signed
-pub mod Sum
 pub mod Each
 pub mod Count
 pub mod Fill
-pub mod Fuel
 pub mod Search
 pub mod Walk
 pub mod Circle

@@ -57,12 +57,6 @@ module _ (f : ℕ → ℕ) (n : ℕ) where
   follow-add zero b i = rw zero-add
   follow-add (suc a) b i = let e : suc a + b ≡ suc (a + b) = omega arith in rw e (follow-add a b (step f n i))
 
-  -- in either order
-  pub follow-swap : (a b i : ℕ) → follow f n a (follow f n b i) ≡ follow f n b (follow f n a i)
-  follow-swap a b i =
-      let e : b + a ≡ a + b = omega arith in
-      sym (follow-add b a i) ∙ ap (λ (k : ℕ). follow f n k i) e ∙ follow-add a b i
-
   -- the part of a walk from place a to the later place b
   pub follow-part : (a b i : ℕ) → a ≤ b → follow f n (b - a) (follow f n a i) ≡ follow f n b i
   follow-part a b i h =
@@ -76,10 +70,6 @@ module _ (f : ℕ → ℕ) (n : ℕ) where
     | inr k ↦ omega (arith, follow-part a b i h, follow-out (b - a) (follow f n a i) k)
   ]
 
-  -- a walk that has left is out later too
-  pub still-out : (a b i : ℕ) → a ≤ b → n ≤ follow f n a i → n ≤ follow f n b i
-  still-out a b i h l = omega (arith, follow-part a b i h, follow-out (b - a) (follow f n a i) l)
-
 -- where f and g agree at each node of g's walk, f's walk is the same
 pub same-walk : (f g : ℕ → ℕ) (n i : ℕ) → ((m : ℕ) → follow g n m i < n → g (follow g n m i) ≡ f (follow g n m i)) → (m : ℕ) → follow g n m i ≡ follow f n m i
 same-walk f g n i same zero = follow-zero g n i ∙ sym (follow-zero f n i)
@@ -91,7 +81,3 @@ same-walk f g n i same (suc m) =
       | inr h ↦ step-out g n x h ∙ sym (step-out f n x h)
     ] in
     follow-last g n m i ∙ s ∙ ap (step f n) e ∙ sym (follow-last f n m i)
-
--- where f and g agree at the nodes, all walks are the same
-pub follow-same : (f g : ℕ → ℕ) (n : ℕ) → ((k : ℕ) → k < n → g k ≡ f k) → (m i : ℕ) → follow g n m i ≡ follow f n m i
-follow-same f g n same m i = same-walk f g n i (λ k h. same (follow g n k i) h) m
