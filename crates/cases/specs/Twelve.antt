@@ -1,0 +1,195 @@
+-- The twelve of 01, "Twelve to prove": each book as bytes, and its answer as bytes or as a refusal; and one proof over the table. Assumes nothing.
+use mathlib.Core.Path.{_≡_, refl}
+use mathlib.Core.Bool.{true, false}
+use mathlib.Core.List.{List, [], _∷_, _++_, map}
+use Prim.Native.Nat.{ℕ}
+use lib.Dec.{ltb}
+use lib.ListN.{replicate}
+use Rattle.book.specs.Refusal.{KNOT}
+use Rattle.book.specs.Field.{valueAt, judged, readAt, fieldOf, ruleOf}
+use Rattle.book.specs.Rules.{rollbackOk, requestOk, ifRequested, leastRollback, modeOk, signedOf, aroundOk, lineOk}
+use Rattle.book.specs.Format.{headerOf, rollbackRead, requestedResource, requestedRollback, requestRead, unheldRead, heldResource, entryRead, entryNext, heldRead, startRead, signedRead, pieceRead, pieceNext, piecesRead, endRead, curveRead, recordRead, recordNext, noRecords, recordsRead, tailRead, acceptedBook, refusedBook, bookOf}
+use Rattle.job.specs.Job.{granted, ran, rolledBack}
+use Rattle.curve.specs.Worth.{worthIn, worthAt}
+use Rattle.curve.specs.Density.{denserThan}
+use Rattle.gus.specs.State.{afterAll}
+use Rattle.gus.specs.Waits.{holderFrom, chainTo, chainOf}
+use Rattle.gus.specs.Course.{passed, credited, denser, toEnd}
+use Rattle.gus.specs.Choice.{reckonOne, reckon, byDensity}
+use Rattle.gus.specs.Group.{toFree, grow, groupOf}
+use Rattle.gus.specs.Round.{better, consider, bestOf, rounds}
+use Rattle.gus.specs.Victims.{circleFrom, circleOf, lossOf, lesser, offer, victimOf, victimsTo, victimsOf, knotTo, knotOf, settled}
+use Rattle.gus.specs.Plan.{answerBy}
+use Rattle.laws.specs.Count.{upto}
+use Rattle.laws.specs.Fill.{padded}
+use Rattle.opening.specs.Start.{heldFrom, jobFrom}
+use Rattle.planner.specs.Planned.{laidPlan, refusedPlan, answered, plannedOf}
+use Rattle.ilhuepatl.specs.Answer.{two, four, bits, partBytes, partsBytes, answerBytes}
+
+pub data Outcome : Type 0 where
+  bytes : List ℕ → Outcome
+  refused : ℕ → ℕ → Outcome
+
+-- from a book's bytes to its answer's bytes, or to the refusal's number and place
+unfoldable pub outcomeOf : List ℕ → Outcome
+outcomeOf s = let p = plannedOf s in elim (ltb 0 (p .number)) [ true ↦ refused (p .number) (p .place) | false ↦ bytes (answerBytes p) ]
+
+pub record Case : Type 0 where
+  pub book : List ℕ
+  pub outcome : Outcome
+
+-- 1. Empty book of 9 bytes
+case1 : Case
+case1 = record {
+  book = ((0 ∷ 9 ∷ 1 ∷ 0 ∷ 0 ∷ 0 ∷ 0 ∷ 0 ∷ 0 ∷ []));
+  outcome = bytes ((0 ∷ 14 ∷ 1 ∷ 0 ∷ [])
+      ++ (0 ∷ [])
+      ++ (0 ∷ 0 ∷ 0 ∷ 0 ∷ 0 ∷ 0 ∷ 0 ∷ 0 ∷ 0 ∷ []));
+}
+
+-- 2. Job 0 10/50, job 1 4/40
+case2 : Case
+case2 = record {
+  book = ((0 ∷ 61 ∷ 1 ∷ 2 ∷ 0 ∷ 0 ∷ 0 ∷ 0 ∷ 0 ∷ [])
+      ++ (0 ∷ 0 ∷ 10 ∷ 0 ∷ 1 ∷ 255 ∷ 0 ∷ 0 ∷ 0 ∷ 0 ∷ 0 ∷ 1 ∷ 0 ∷ 0 ∷ 0 ∷ 0 ∷ 0 ∷ 0 ∷ 0 ∷ 50 ∷ 0 ∷ 0 ∷ 0 ∷ 0 ∷ 3 ∷ 232 ∷ [])
+      ++ (0 ∷ 0 ∷ 4 ∷ 0 ∷ 1 ∷ 255 ∷ 0 ∷ 0 ∷ 0 ∷ 0 ∷ 0 ∷ 1 ∷ 0 ∷ 0 ∷ 0 ∷ 0 ∷ 0 ∷ 0 ∷ 0 ∷ 40 ∷ 0 ∷ 0 ∷ 0 ∷ 0 ∷ 3 ∷ 232 ∷ []));
+  outcome = bytes ((0 ∷ 22 ∷ 1 ∷ 0 ∷ [])
+      ++ (2 ∷ [])
+      ++ (1 ∷ 0 ∷ 0 ∷ 4 ∷ [])
+      ++ (0 ∷ 0 ∷ 0 ∷ 10 ∷ [])
+      ++ (2 ∷ 0 ∷ 0 ∷ 0 ∷ 90 ∷ 0 ∷ 0 ∷ 0 ∷ 14 ∷ []));
+}
+
+-- 3. Job 0 10/7, termination 10
+case3 : Case
+case3 = record {
+  book = ((0 ∷ 35 ∷ 1 ∷ 1 ∷ 0 ∷ 0 ∷ 0 ∷ 0 ∷ 0 ∷ [])
+      ++ (0 ∷ 0 ∷ 10 ∷ 0 ∷ 1 ∷ 255 ∷ 0 ∷ 0 ∷ 0 ∷ 0 ∷ 0 ∷ 1 ∷ 0 ∷ 0 ∷ 0 ∷ 0 ∷ 0 ∷ 0 ∷ 0 ∷ 7 ∷ 0 ∷ 0 ∷ 0 ∷ 0 ∷ 0 ∷ 10 ∷ []));
+  outcome = bytes ((0 ∷ 18 ∷ 1 ∷ 0 ∷ [])
+      ++ (1 ∷ [])
+      ++ (0 ∷ 0 ∷ 0 ∷ 10 ∷ [])
+      ++ (1 ∷ 0 ∷ 0 ∷ 0 ∷ 7 ∷ 0 ∷ 0 ∷ 0 ∷ 10 ∷ []));
+}
+
+-- 4. The same, termination 9
+case4 : Case
+case4 = record {
+  book = ((0 ∷ 35 ∷ 1 ∷ 1 ∷ 0 ∷ 0 ∷ 0 ∷ 0 ∷ 0 ∷ [])
+      ++ (0 ∷ 0 ∷ 10 ∷ 0 ∷ 1 ∷ 255 ∷ 0 ∷ 0 ∷ 0 ∷ 0 ∷ 0 ∷ 1 ∷ 0 ∷ 0 ∷ 0 ∷ 0 ∷ 0 ∷ 0 ∷ 0 ∷ 7 ∷ 0 ∷ 0 ∷ 0 ∷ 0 ∷ 0 ∷ 9 ∷ []));
+  outcome = bytes ((0 ∷ 14 ∷ 1 ∷ 0 ∷ [])
+      ++ (0 ∷ [])
+      ++ (0 ∷ 0 ∷ 0 ∷ 0 ∷ 0 ∷ 0 ∷ 0 ∷ 0 ∷ 0 ∷ []));
+}
+
+-- 5. The book printed in 01
+case5 : Case
+case5 = record {
+  book = ((0 ∷ 66 ∷ 1 ∷ 2 ∷ 1 ∷ 0 ∷ 0 ∷ 0 ∷ 0 ∷ [])
+      ++ (0 ∷ 0 ∷ 6 ∷ 0 ∷ 2 ∷ 255 ∷ 0 ∷ 0 ∷ 0 ∷ 0 ∷ 1 ∷ 0 ∷ 0 ∷ 6 ∷ 0 ∷ 2 ∷ 1 ∷ 0 ∷ 0 ∷ 0 ∷ 0 ∷ 0 ∷ 0 ∷ 0 ∷ 0 ∷ 0 ∷ 0 ∷ 0 ∷ 0 ∷ 0 ∷ 100 ∷ [])
+      ++ (0 ∷ 0 ∷ 5 ∷ 0 ∷ 1 ∷ 0 ∷ 0 ∷ 5 ∷ 0 ∷ 1 ∷ 0 ∷ 1 ∷ 0 ∷ 0 ∷ 0 ∷ 0 ∷ 0 ∷ 0 ∷ 0 ∷ 22 ∷ 0 ∷ 0 ∷ 0 ∷ 0 ∷ 0 ∷ 100 ∷ []));
+  outcome = bytes ((0 ∷ 22 ∷ 1 ∷ 0 ∷ [])
+      ++ (2 ∷ [])
+      ++ (0 ∷ 1 ∷ 0 ∷ 2 ∷ [])
+      ++ (1 ∷ 0 ∷ 0 ∷ 5 ∷ [])
+      ++ (1 ∷ 0 ∷ 0 ∷ 0 ∷ 22 ∷ 0 ∷ 0 ∷ 0 ∷ 7 ∷ []));
+}
+
+-- 6. Job 0 20/30 holds r0 (6, rollback 1); job 1 5/22 requests r0 (5, 1)
+case6 : Case
+case6 = record {
+  book = ((0 ∷ 66 ∷ 1 ∷ 2 ∷ 1 ∷ 0 ∷ 0 ∷ 0 ∷ 0 ∷ [])
+      ++ (0 ∷ 0 ∷ 20 ∷ 0 ∷ 1 ∷ 255 ∷ 0 ∷ 0 ∷ 0 ∷ 0 ∷ 1 ∷ 0 ∷ 0 ∷ 6 ∷ 0 ∷ 1 ∷ 1 ∷ 0 ∷ 0 ∷ 0 ∷ 0 ∷ 0 ∷ 0 ∷ 0 ∷ 30 ∷ 0 ∷ 0 ∷ 0 ∷ 0 ∷ 3 ∷ 232 ∷ [])
+      ++ (0 ∷ 0 ∷ 5 ∷ 0 ∷ 1 ∷ 0 ∷ 0 ∷ 5 ∷ 0 ∷ 1 ∷ 0 ∷ 1 ∷ 0 ∷ 0 ∷ 0 ∷ 0 ∷ 0 ∷ 0 ∷ 0 ∷ 22 ∷ 0 ∷ 0 ∷ 0 ∷ 0 ∷ 3 ∷ 232 ∷ []));
+  outcome = bytes ((0 ∷ 26 ∷ 1 ∷ 0 ∷ [])
+      ++ (3 ∷ [])
+      ++ (0 ∷ 0 ∷ 0 ∷ 6 ∷ [])
+      ++ (1 ∷ 0 ∷ 0 ∷ 5 ∷ [])
+      ++ (0 ∷ 0 ∷ 0 ∷ 14 ∷ [])
+      ++ (2 ∷ 0 ∷ 0 ∷ 0 ∷ 52 ∷ 0 ∷ 0 ∷ 0 ∷ 25 ∷ []));
+}
+
+-- 7. Case 5, job 0 rollback and held rollback 6: a tie
+case7 : Case
+case7 = record {
+  book = ((0 ∷ 66 ∷ 1 ∷ 2 ∷ 1 ∷ 0 ∷ 0 ∷ 0 ∷ 0 ∷ [])
+      ++ (0 ∷ 0 ∷ 6 ∷ 0 ∷ 6 ∷ 255 ∷ 0 ∷ 0 ∷ 0 ∷ 0 ∷ 1 ∷ 0 ∷ 0 ∷ 6 ∷ 0 ∷ 6 ∷ 1 ∷ 0 ∷ 0 ∷ 0 ∷ 0 ∷ 0 ∷ 0 ∷ 0 ∷ 0 ∷ 0 ∷ 0 ∷ 0 ∷ 0 ∷ 0 ∷ 100 ∷ [])
+      ++ (0 ∷ 0 ∷ 5 ∷ 0 ∷ 1 ∷ 0 ∷ 0 ∷ 5 ∷ 0 ∷ 1 ∷ 0 ∷ 1 ∷ 0 ∷ 0 ∷ 0 ∷ 0 ∷ 0 ∷ 0 ∷ 0 ∷ 22 ∷ 0 ∷ 0 ∷ 0 ∷ 0 ∷ 0 ∷ 100 ∷ []));
+  outcome = bytes ((0 ∷ 22 ∷ 1 ∷ 0 ∷ [])
+      ++ (2 ∷ [])
+      ++ (0 ∷ 0 ∷ 0 ∷ 6 ∷ [])
+      ++ (1 ∷ 0 ∷ 0 ∷ 5 ∷ [])
+      ++ (1 ∷ 0 ∷ 0 ∷ 0 ∷ 22 ∷ 0 ∷ 0 ∷ 0 ∷ 11 ∷ []));
+}
+
+-- 8. Job 0 12/0, never, holds r0 for 3, r1 for 8; job 1 2/10 requests r1 for 2
+case8 : Case
+case8 = record {
+  book = ((0 ∷ 71 ∷ 1 ∷ 2 ∷ 2 ∷ 0 ∷ 0 ∷ 0 ∷ 0 ∷ [])
+      ++ (0 ∷ 0 ∷ 12 ∷ 255 ∷ 255 ∷ 255 ∷ 0 ∷ 0 ∷ 0 ∷ 0 ∷ 2 ∷ 0 ∷ 0 ∷ 3 ∷ 255 ∷ 255 ∷ 1 ∷ 0 ∷ 8 ∷ 255 ∷ 255 ∷ 1 ∷ 0 ∷ 0 ∷ 0 ∷ 0 ∷ 0 ∷ 0 ∷ 0 ∷ 0 ∷ 0 ∷ 0 ∷ 0 ∷ 0 ∷ 3 ∷ 232 ∷ [])
+      ++ (0 ∷ 0 ∷ 2 ∷ 0 ∷ 1 ∷ 1 ∷ 0 ∷ 2 ∷ 0 ∷ 1 ∷ 0 ∷ 1 ∷ 0 ∷ 0 ∷ 0 ∷ 0 ∷ 0 ∷ 0 ∷ 0 ∷ 10 ∷ 0 ∷ 0 ∷ 0 ∷ 0 ∷ 3 ∷ 232 ∷ []));
+  outcome = bytes ((0 ∷ 22 ∷ 1 ∷ 0 ∷ [])
+      ++ (2 ∷ [])
+      ++ (0 ∷ 0 ∷ 0 ∷ 8 ∷ [])
+      ++ (1 ∷ 0 ∷ 0 ∷ 2 ∷ [])
+      ++ (1 ∷ 0 ∷ 0 ∷ 0 ∷ 10 ∷ 0 ∷ 0 ∷ 0 ∷ 10 ∷ []));
+}
+
+-- 9. A circle of two
+case9 : Case
+case9 = record {
+  book = ((0 ∷ 71 ∷ 1 ∷ 2 ∷ 2 ∷ 0 ∷ 0 ∷ 0 ∷ 0 ∷ [])
+      ++ (0 ∷ 0 ∷ 10 ∷ 0 ∷ 3 ∷ 1 ∷ 0 ∷ 4 ∷ 0 ∷ 1 ∷ 1 ∷ 0 ∷ 0 ∷ 10 ∷ 0 ∷ 3 ∷ 1 ∷ 0 ∷ 0 ∷ 0 ∷ 0 ∷ 0 ∷ 0 ∷ 0 ∷ 50 ∷ 0 ∷ 0 ∷ 0 ∷ 0 ∷ 3 ∷ 232 ∷ [])
+      ++ (0 ∷ 0 ∷ 10 ∷ 0 ∷ 3 ∷ 0 ∷ 0 ∷ 4 ∷ 0 ∷ 1 ∷ 1 ∷ 1 ∷ 0 ∷ 10 ∷ 0 ∷ 3 ∷ 1 ∷ 0 ∷ 0 ∷ 0 ∷ 0 ∷ 0 ∷ 0 ∷ 0 ∷ 20 ∷ 0 ∷ 0 ∷ 0 ∷ 0 ∷ 3 ∷ 232 ∷ []));
+  outcome = bytes ((0 ∷ 23 ∷ 1 ∷ 1 ∷ 1 ∷ [])
+      ++ (2 ∷ [])
+      ++ (1 ∷ 1 ∷ 0 ∷ 3 ∷ [])
+      ++ (0 ∷ 0 ∷ 0 ∷ 10 ∷ [])
+      ++ (1 ∷ 0 ∷ 0 ∷ 0 ∷ 50 ∷ 0 ∷ 0 ∷ 0 ∷ 13 ∷ []));
+}
+
+-- 10. Case 9, job 1 never
+case10 : Case
+case10 = record {
+  book = ((0 ∷ 71 ∷ 1 ∷ 2 ∷ 2 ∷ 0 ∷ 0 ∷ 0 ∷ 0 ∷ [])
+      ++ (0 ∷ 0 ∷ 10 ∷ 0 ∷ 3 ∷ 1 ∷ 0 ∷ 4 ∷ 0 ∷ 1 ∷ 1 ∷ 0 ∷ 0 ∷ 10 ∷ 0 ∷ 3 ∷ 1 ∷ 0 ∷ 0 ∷ 0 ∷ 0 ∷ 0 ∷ 0 ∷ 0 ∷ 50 ∷ 0 ∷ 0 ∷ 0 ∷ 0 ∷ 3 ∷ 232 ∷ [])
+      ++ (0 ∷ 0 ∷ 10 ∷ 255 ∷ 255 ∷ 0 ∷ 0 ∷ 4 ∷ 255 ∷ 255 ∷ 1 ∷ 1 ∷ 0 ∷ 10 ∷ 255 ∷ 255 ∷ 1 ∷ 0 ∷ 0 ∷ 0 ∷ 0 ∷ 0 ∷ 0 ∷ 0 ∷ 20 ∷ 0 ∷ 0 ∷ 0 ∷ 0 ∷ 3 ∷ 232 ∷ []));
+  outcome = bytes ((0 ∷ 23 ∷ 1 ∷ 1 ∷ 0 ∷ [])
+      ++ (2 ∷ [])
+      ++ (0 ∷ 1 ∷ 0 ∷ 3 ∷ [])
+      ++ (1 ∷ 0 ∷ 0 ∷ 10 ∷ [])
+      ++ (1 ∷ 0 ∷ 0 ∷ 0 ∷ 20 ∷ 0 ∷ 0 ∷ 0 ∷ 13 ∷ []));
+}
+
+-- 11. Case 9, both never: KNOT at 0
+case11 : Case
+case11 = record {
+  book = ((0 ∷ 71 ∷ 1 ∷ 2 ∷ 2 ∷ 0 ∷ 0 ∷ 0 ∷ 0 ∷ [])
+      ++ (0 ∷ 0 ∷ 10 ∷ 255 ∷ 255 ∷ 1 ∷ 0 ∷ 4 ∷ 255 ∷ 255 ∷ 1 ∷ 0 ∷ 0 ∷ 10 ∷ 255 ∷ 255 ∷ 1 ∷ 0 ∷ 0 ∷ 0 ∷ 0 ∷ 0 ∷ 0 ∷ 0 ∷ 50 ∷ 0 ∷ 0 ∷ 0 ∷ 0 ∷ 3 ∷ 232 ∷ [])
+      ++ (0 ∷ 0 ∷ 10 ∷ 255 ∷ 255 ∷ 0 ∷ 0 ∷ 4 ∷ 255 ∷ 255 ∷ 1 ∷ 1 ∷ 0 ∷ 10 ∷ 255 ∷ 255 ∷ 1 ∷ 0 ∷ 0 ∷ 0 ∷ 0 ∷ 0 ∷ 0 ∷ 0 ∷ 20 ∷ 0 ∷ 0 ∷ 0 ∷ 0 ∷ 3 ∷ 232 ∷ []));
+  outcome = refused KNOT 0;
+}
+
+-- 12. All never: a chain of three, and what is freed goes to the job that ran next
+case12 : Case
+case12 = record {
+  book = ((0 ∷ 123 ∷ 1 ∷ 4 ∷ 2 ∷ 0 ∷ 0 ∷ 0 ∷ 0 ∷ [])
+      ++ (0 ∷ 0 ∷ 2 ∷ 255 ∷ 255 ∷ 255 ∷ 0 ∷ 0 ∷ 0 ∷ 0 ∷ 1 ∷ 0 ∷ 0 ∷ 2 ∷ 255 ∷ 255 ∷ 1 ∷ 0 ∷ 0 ∷ 0 ∷ 0 ∷ 0 ∷ 0 ∷ 0 ∷ 0 ∷ 0 ∷ 0 ∷ 0 ∷ 0 ∷ 3 ∷ 232 ∷ [])
+      ++ (0 ∷ 0 ∷ 9 ∷ 255 ∷ 255 ∷ 0 ∷ 0 ∷ 9 ∷ 255 ∷ 255 ∷ 1 ∷ 1 ∷ 0 ∷ 3 ∷ 255 ∷ 255 ∷ 1 ∷ 0 ∷ 0 ∷ 0 ∷ 0 ∷ 0 ∷ 0 ∷ 0 ∷ 5 ∷ 0 ∷ 0 ∷ 0 ∷ 0 ∷ 3 ∷ 232 ∷ [])
+      ++ (0 ∷ 0 ∷ 1 ∷ 255 ∷ 255 ∷ 1 ∷ 0 ∷ 1 ∷ 255 ∷ 255 ∷ 0 ∷ 1 ∷ 0 ∷ 0 ∷ 0 ∷ 0 ∷ 0 ∷ 0 ∷ 0 ∷ 60 ∷ 0 ∷ 0 ∷ 0 ∷ 0 ∷ 3 ∷ 232 ∷ [])
+      ++ (0 ∷ 0 ∷ 1 ∷ 255 ∷ 255 ∷ 0 ∷ 0 ∷ 1 ∷ 255 ∷ 255 ∷ 0 ∷ 1 ∷ 0 ∷ 0 ∷ 0 ∷ 0 ∷ 0 ∷ 0 ∷ 0 ∷ 5 ∷ 0 ∷ 0 ∷ 0 ∷ 0 ∷ 3 ∷ 232 ∷ []));
+  outcome = bytes ((0 ∷ 34 ∷ 1 ∷ 0 ∷ [])
+      ++ (5 ∷ [])
+      ++ (0 ∷ 0 ∷ 0 ∷ 2 ∷ [])
+      ++ (1 ∷ 0 ∷ 0 ∷ 3 ∷ [])
+      ++ (2 ∷ 0 ∷ 0 ∷ 1 ∷ [])
+      ++ (1 ∷ 0 ∷ 0 ∷ 6 ∷ [])
+      ++ (3 ∷ 0 ∷ 0 ∷ 1 ∷ [])
+      ++ (2 ∷ 0 ∷ 0 ∷ 0 ∷ 70 ∷ 0 ∷ 0 ∷ 0 ∷ 13 ∷ []));
+}
+
+table : List Case
+table = case1 ∷ case2 ∷ case3 ∷ case4 ∷ case5 ∷ case6 ∷ case7 ∷ case8 ∷ case9 ∷ case10 ∷ case11 ∷ case12 ∷ []
+
+twelve : map (λ c. outcomeOf (c .book)) table ≡ map (λ c. c .outcome) table
+unfolding table case1 case2 case3 case4 case5 case6 case7 case8 case9 case10 case11 case12 outcomeOf valueAt judged readAt fieldOf ruleOf rollbackOk requestOk ifRequested leastRollback modeOk signedOf aroundOk lineOk headerOf rollbackRead requestedResource requestedRollback requestRead unheldRead heldResource entryRead entryNext heldRead startRead signedRead pieceRead pieceNext piecesRead endRead curveRead recordRead recordNext noRecords recordsRead tailRead acceptedBook refusedBook bookOf granted ran rolledBack worthIn worthAt denserThan afterAll holderFrom chainTo chainOf passed credited denser toEnd reckonOne reckon byDensity toFree grow groupOf better consider bestOf rounds circleFrom circleOf lossOf lesser offer victimOf victimsTo victimsOf knotTo knotOf settled answerBy upto padded heldFrom jobFrom laidPlan refusedPlan answered plannedOf two four bits partBytes partsBytes answerBytes
+twelve = refl

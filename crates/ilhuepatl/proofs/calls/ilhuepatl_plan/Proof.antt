@@ -1,0 +1,28 @@
+use mathlib.Core.Path.{_≡_, ap, _∙_}
+use Rattle.ilhuepatl.specs.Calls.{Outcome, word}
+use borrow.Author.Needs.{needs}
+use Rattle.ilhuepatl.proofs.calls.ilhuepatl_plan.Statement.{statement}
+use Rattle.ilhuepatl.proofs.calls.ilhuepatl_plan.Tie as tie
+use Rattle.ilhuepatl.proofs.calls.ilhuepatl_plan.Reads as reads
+use Rattle.ilhuepatl.proofs.calls.ilhuepatl_plan.Lts as lts
+use Rattle.ilhuepatl.proofs.calls.plan_bytes.Reads as plan-bytes-reads
+use Rattle.ilhuepatl.proofs.calls.word_of.Reads as word-of-reads
+
+-- src/calls.rt:42:9
+plan-bytes-requires : tie.Need-plan-bytes-requires
+plan-bytes-requires c κs = search needs
+
+-- src/calls.rt:43:5
+word-of-requires : tie.Need-word-of-requires
+word-of-requires c κs = search needs
+
+-- src/calls.rt:38:1
+same-length : tie.Need-same-length
+same-length c = search needs
+
+-- src/calls.rt:38:1
+returns : tie.Need-returns
+returns c = (c .word-of .ensures ∙ ap (λ (o : Outcome). word (o .verdict)) (c .before .before .before .plan-bytes .ensures), ap (λ (o : Outcome). o .out) (c .before .before .before .plan-bytes .ensures))
+
+pub ilhuepatl-plan-spec : {M : Type 1} → statement M
+ilhuepatl-plan-spec = tie.close (tie.spec plan-bytes-requires word-of-requires same-length returns)

@@ -1,0 +1,46 @@
+-- What the public calls answer, verdict and lent bytes together (01, "The answer", "What a refusal says"). Assumes nothing.
+use mathlib.Core.Bool.{true, false}
+use mathlib.Core.List.{List}
+use Prim.Native.Nat.{ℕ, _+_, _*_, _%_}
+use lib.Dec.{ltb}
+use lib.ListN.{length}
+use Rattle.book.specs.declared.question.Found.{Found}
+use Rattle.planner.specs.declared.Planned.{Planned}
+use Rattle.planner.specs.Planned.{plannedOf}
+use Rattle.ilhuepatl.specs.declared.Verdict.{Verdict}
+use Rattle.ilhuepatl.specs.Answer.{answerBytes, over}
+
+pub record Outcome : Type 0 where
+  pub verdict : Verdict
+  pub out : List ℕ
+
+abbrev pub verdictOf : ℕ → ℕ → Verdict
+verdictOf number place = record { number = number; place = place }
+
+-- a refusal writes nothing
+abbrev pub byPlan : Planned → List ℕ → Outcome
+byPlan p out =
+    elim (ltb 0 (p .number)) [
+      | true ↦ record { verdict = verdictOf (p .number) (p .place); out = out }
+      | false ↦ record { verdict = verdictOf 0 0; out = over (answerBytes p) out }
+    ]
+
+-- ROOM: "output under 430 bytes", before all else
+unfoldable pub outcomeOf : List ℕ → List ℕ → Outcome
+outcomeOf book out =
+    elim (ltb (length out) 430) [
+      | true ↦ record { verdict = verdictOf 1 0; out = out }
+      | false ↦ byPlan (plannedOf book) out
+    ]
+
+-- a verdict in one number, for C: 0, or the refusal's number and, in the lower 32 bits, its place
+unfoldable pub word : Verdict → ℕ
+word v = v .number * 4294967296 + v .place % 4294967296
+
+-- where a record stands, in one number, for C: a refusal as above, or start and end of 16 bits each
+unfoldable pub recordWord : Found → ℕ
+recordWord f =
+    elim (ltb 0 (f .number)) [
+      | true ↦ word (verdictOf (f .number) (f .place))
+      | false ↦ f .start % 65536 * 65536 + f .end % 65536
+    ]

@@ -1,0 +1,47 @@
+-- The three ways a call ends: no room, a refusal, an answer. Assumes nothing.
+use mathlib.Core.Path.{_≡_, refl, sym, ap, _∙_}
+use mathlib.Core.Bool.{Bool, true, false}
+use mathlib.Core.List.{List}
+use Prim.Native.Nat.{ℕ, _+_, _*_, _%_, _<_, _≤_}
+use lib.Dec.{ltb}
+use lib.ListN.{length}
+use borrow.Author.Tests.{lt-ltb, le-ltb}
+use Rattle.book.specs.declared.question.Found.{Found}
+use Rattle.planner.specs.declared.Planned.{Planned}
+use Rattle.planner.specs.Planned.{plannedOf}
+use Rattle.ilhuepatl.specs.declared.Verdict.{Verdict}
+use Rattle.ilhuepatl.specs.Answer.{answerBytes, over}
+use Rattle.ilhuepatl.specs.Calls.{Outcome, verdictOf, byPlan, outcomeOf, word, recordWord}
+
+-- with room the plan decides
+room : (book out : List ℕ) → 430 ≤ length out → {p : Planned} → p ≡ plannedOf book → byPlan p out ≡ outcomeOf book out
+unfolding outcomeOf
+room book out h e = ap (λ (x : Planned). byPlan x out) e ∙ sym (ap (λ (b : Bool). elim b as (λ _. Outcome) [ true ↦ record { verdict = verdictOf 1 0; out = out } | false ↦ byPlan (plannedOf book) out ]) (le-ltb (length out) 430 h))
+
+module _ (book out : List ℕ) {v : Verdict} where
+  pub no-room : length out < 430 → v ≡ verdictOf 1 0 → record { verdict = v; out = out } ≡ outcomeOf book out
+  unfolding outcomeOf
+  no-room h e = ap (λ (x : Verdict). record { verdict = x; out = out }) e ∙ sym (ap (λ (b : Bool). elim b as (λ _. Outcome) [ true ↦ record { verdict = verdictOf 1 0; out = out } | false ↦ byPlan (plannedOf book) out ]) (lt-ltb (length out) 430 h))
+
+  module _ (h : 430 ≤ length out) {p : Planned} (e : p ≡ plannedOf book) where
+    pub refused : 0 < p .number → v ≡ verdictOf (p .number) (p .place) → record { verdict = v; out = out } ≡ outcomeOf book out
+    refused l q =
+        ap (λ (x : Verdict). record { verdict = x; out = out }) q
+        ∙ sym (ap (λ (b : Bool). elim b as (λ _. Outcome) [ true ↦ record { verdict = verdictOf (p .number) (p .place); out = out } | false ↦ record { verdict = verdictOf 0 0; out = over (answerBytes p) out } ]) (lt-ltb 0 (p .number) l))
+        ∙ room book out h e
+
+    pub answered : p .number ≤ 0 → v ≡ verdictOf 0 0 → {out′ : List ℕ} → out′ ≡ over (answerBytes p) out → record { verdict = v; out = out′ } ≡ outcomeOf book out
+    answered l q w =
+        (λ i. record { verdict = q i; out = w i })
+        ∙ sym (ap (λ (b : Bool). elim b as (λ _. Outcome) [ true ↦ record { verdict = verdictOf (p .number) (p .place); out = out } | false ↦ record { verdict = verdictOf 0 0; out = over (answerBytes p) out } ]) (le-ltb 0 (p .number) l))
+        ∙ room book out h e
+
+-- the two ways of the record question, in one number
+module _ {f g : Found} (e : f ≡ g) where
+  pub word-refused : 0 < f .number → {n : ℕ} → n ≡ word (verdictOf (f .number) (f .place)) → n ≡ recordWord g
+  unfolding recordWord
+  word-refused l q = q ∙ sym (ap (λ (b : Bool). elim b as (λ _. ℕ) [ true ↦ word (verdictOf (f .number) (f .place)) | false ↦ f .start % 65536 * 65536 + f .end % 65536 ]) (lt-ltb 0 (f .number) l)) ∙ ap recordWord e
+
+  pub word-found : f .number ≤ 0 → f .start % 65536 * 65536 + f .end % 65536 ≡ recordWord g
+  unfolding recordWord
+  word-found l = sym (ap (λ (b : Bool). elim b as (λ _. ℕ) [ true ↦ word (verdictOf (f .number) (f .place)) | false ↦ f .start % 65536 * 65536 + f .end % 65536 ]) (le-ltb 0 (f .number) l)) ∙ ap recordWord e

@@ -1,0 +1,11 @@
+// The public calls.
+mod answer;
+pub mod calls;
+mod number;
+mod part;
+mod row;
+
+pub struct Verdict {
+    pub number: u8,
+    pub place: usize,
+}

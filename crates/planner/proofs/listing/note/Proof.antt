@@ -1,0 +1,22 @@
+-- `planner::listing::note` meets its contract.
+use borrow.Author.Needs.{needs}
+use Rattle.planner.proofs.listing.note.Statement.{statement}
+use Rattle.planner.proofs.listing.note.Tie as tie
+
+cast-v : tie.Need-cast-v
+cast-v c = search needs
+
+element-write-v : tie.Need-element-write-v
+element-write-v c = search needs
+
+add-v : tie.Need-add-v
+add-v c = search needs
+
+knot-after-requires : tie.Need-knot-after-requires
+knot-after-requires c κs = search needs
+
+returns : tie.Need-returns
+returns c = rw (c .knot-after .ensures)
+
+pub note-spec : {M : Type 1} → statement M
+note-spec = tie.close (tie.spec cast-v element-write-v add-v knot-after-requires returns)

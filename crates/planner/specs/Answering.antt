@@ -1,0 +1,159 @@
+-- From the jobs of a book to its answer: knot, victims, rounds. Assumes nothing.
+use mathlib.Core.Path.{_≡_, refl, sym, ap, subst, _∙_}
+use mathlib.Core.List.{List, map}
+use Prim.Native.Nat.{ℕ, _<_, _≤_}
+use native.Mathlib.Omega.{arith}
+use borrow.Author.Tests.{lt-ltb, le-ltb}
+use lib.IntN.{ℤ, natAbs}
+use lib.ListN.{length-map}
+use Rattle.job.specs.declared.Job.{Job}
+use Rattle.book.specs.declared.Book.{Book}
+use Rattle.book.specs.Refusal.{KNOT}
+use Rattle.book.specs.Format.{bookOf}
+use Rattle.gus.specs.View.{Pay, View, viewOf}
+use Rattle.gus.specs.Choice.{byDensity}
+use Rattle.gus.specs.Round.{rounds}
+use Rattle.gus.specs.Victims.{victimsOf, knotOf, settled}
+use Rattle.gus.specs.Plan.{answerBy}
+use Rattle.invariants.specs.Sound.{Sound}
+use Rattle.invariants.specs.Start.{ready-settled}
+use Rattle.invariants.specs.Settled.{holder-settled}
+use Rattle.invariants.specs.End.{Small}
+use Rattle.opening.specs.Start.{jobFrom, jobsFrom, payFrom}
+use Rattle.opening.specs.Modest.{Modest, modest}
+use Rattle.opening.specs.Small.{small-settled}
+use Rattle.opening.specs.Opened.{accepted-opened}
+use Rattle.planner.specs.declared.State.{State}
+use Rattle.planner.specs.declared.Links.{Links}
+use Rattle.planner.specs.declared.Victims.{Victims}
+use Rattle.planner.specs.declared.Stage.{Stage}
+use Rattle.planner.specs.declared.Planned.{Planned}
+use Rattle.planner.specs.declared.Opened.{Opened}
+use Rattle.planner.specs.Seen.{paid, seen}
+use Rattle.planner.specs.Flatten.{Flattened, flat-pay}
+use Rattle.planner.specs.Offering.{seenWaits}
+use Rattle.planner.specs.Laid.{laid}
+use Rattle.planner.specs.LaidView.{laid-view}
+use Rattle.planner.specs.Listing.{listed}
+use Rattle.planner.specs.Settling.{Handed, victimsIn}
+use Rattle.planner.specs.Handing.{modest-without, same-listed, listed-victims, listed-handed}
+use Rattle.planner.specs.Holding.{Holding, agreeing}
+use Rattle.planner.specs.Fitting.{Sane}
+use Rattle.planner.specs.Staged.{Rounded}
+use Rattle.planner.specs.Planned.{laidPlan, refusedPlan, answered, plannedOf}
+
+-- the jobs of an accepted book, before the victims are found
+pub record Accepted (pay : Pay) (s : State) (moment : ℕ) : Type 0 where
+  pub sound : Sound (s .jobs)
+  pub small : Small (s .jobs)
+  pub holding : Holding s
+  pub worth : (i t : ℕ) → natAbs (pay i t) ≤ 1000000
+  pub now : moment ≤ 2147483647
+
+-- the answer that the victims and the last stage make
+abbrev pub planIn : Victims → Stage → Planned
+planIn v s = record {
+  number = 0;
+  place = 0;
+  victims = v .list;
+  victimcount = v .count;
+  parts = s .parts;
+  count = s .count;
+  rounds = s .rounds;
+  total = s .total;
+  end = s .moment;
+}
+
+-- the victims by the lent arrays are those of the jobs
+module _ (starts : List ℕ) (values slopes : List ℤ) (counts ends : List ℕ) {s : State} {now : ℕ} {l : Links} (a : Accepted (paid starts values slopes counts ends) s now) (e : l ≡ laid s) where
+  laid-is : seen starts values slopes counts ends (l .run) (l .rollback) (l .hold) (l .undo) (l .rolling) (l .left) (l .waits) ≡ viewOf (paid starts values slopes counts ends) (s .jobs)
+  laid-is = rw e (laid-view s (agreeing (a .sound) (a .holding)) starts values slopes counts ends)
+
+  pub waits-modest : Modest (seenWaits starts values slopes counts ends (l .run) (l .rollback) (l .rolling) (l .waits))
+  waits-modest = modest-without {v = seen starts values slopes counts ends (l .run) (l .rollback) (l .hold) (l .undo) (l .rolling) (l .left) (l .waits)} (rw laid-is (modest (paid starts values slopes counts ends) (a .worth) (a .sound) (a .small)))
+
+  pub victims-are : {v : Victims} → v ≡ listed (seenWaits starts values slopes counts ends (l .run) (l .rollback) (l .rolling) (l .waits)) now → v ≡ listed (viewOf (paid starts values slopes counts ends) (s .jobs)) now
+  victims-are d = d ∙ same-listed (seen starts values slopes counts ends (l .run) (l .rollback) (l .hold) (l .undo) (l .rolling) (l .left) (l .waits)) now ∙ ap (λ (v : View). listed v now) laid-is
+
+module _ (pay : Pay) (s : State) (now : ℕ) {v : Victims} (e : v ≡ listed (viewOf pay (s .jobs)) now) where
+  pub victims-handed : Handed v
+  victims-handed = rw e (listed-handed (viewOf pay (s .jobs)) now)
+
+  pub knotted : {r : Planned} → v .knot < 32 → r ≡ refusedPlan KNOT (v .knot) → r ≡ answered pay (s .jobs) now
+  unfolding answered listed
+  knotted h q = let k = ap (λ (x : Victims). x .knot) e in rw (lt-ltb _ 32 (rw k at h), answered) (q ∙ ap (refusedPlan KNOT) k)
+
+  module _ (a : Accepted pay s now) (none : 32 ≤ v .knot) {js : List Job} (q : js ≡ settled (s .jobs) (victimsIn v)) where
+    settled-is : js ≡ settled (s .jobs) (victimsOf (viewOf pay (s .jobs)) now)
+    settled-is = q ∙ ap (λ (x : Victims). settled (s .jobs) (victimsIn x)) e ∙ ap (settled (s .jobs)) (listed-victims (viewOf pay (s .jobs)) now)
+
+    free : 32 ≤ knotOf (viewOf pay (s .jobs)) now
+    unfolding listed
+    free = rw (ap (λ (x : Victims). x .knot) e) at none
+
+    pub settled-sane : Sane pay (record { jobs = js; holders = s .holders })
+    settled-sane = rw settled-is (record {
+      ready = ready-settled pay now (a .sound) free;
+      small = small-settled (a .small) (victimsOf (viewOf pay (s .jobs)) now);
+      holding = record { size = a .holding .size; agree = λ r h. a .holding .agree r h ∙ sym (holder-settled (s .jobs) (victimsOf (viewOf pay (s .jobs)) now) r) };
+      worth = a .worth;
+    })
+
+    pub planned-is : {t : Stage} {r : Planned} → Rounded (rounds 32 byDensity pay js now) t → r ≡ planIn v t → r ≡ answered pay (s .jobs) now
+    unfolding answered laidPlan answerBy listed
+    planned-is {t} d p =
+        let z : Rounded (rounds 32 byDensity pay (settled (s .jobs) (victimsOf (viewOf pay (s .jobs)) now)) now) t = rw settled-is at d in
+        rw (le-ltb (knotOf (viewOf pay (s .jobs)) now) 32 free, answered)
+        (p ∙ (λ j. record {
+          number = 0;
+          place = 0;
+          victims = e j .list;
+          victimcount = e j .count;
+          parts = z .parts j;
+          count = z .count j;
+          rounds = z .rounds j;
+          total = z .total j;
+          end = z .end j;
+        }))
+
+-- what is taken from a book before it is let go
+pub record Taken (b : Book) (o : Opened) : Type 0 where
+  pub number : o .number ≡ b .number
+  pub place : o .place ≡ b .place
+  pub now : o .now ≡ b .now
+  pub jobs : o .state .jobs ≡ jobsFrom b
+  pub holders : o .state .holders ≡ b .holders
+  pub curves : Flattened (b .records) (o .starts) (o .values) (o .slopes) (o .counts) (o .ends)
+
+pub taken : {b b′ : Book} {jobs : List Job} {starts : List ℕ} {values slopes : List ℤ} {counts ends : List ℕ}
+    → b ≡ b′
+    → jobs ≡ map jobFrom (b .records)
+    → Flattened (b .records) starts values slopes counts ends
+    → Taken b′ (record { number = b .number; place = b .place; now = b .now; state = record { jobs = jobs; holders = b .holders }; starts = starts; values = values; slopes = slopes; counts = counts; ends = ends })
+taken e j f = rw (← e) (record { number = refl; place = refl; now = refl; jobs = j; holders = refl; curves = f })
+
+module _ (s : List ℕ) {o : Opened} (t : Taken (bookOf s) o) where
+  pub refused : {r : Planned} → 0 < o .number → r ≡ refusedPlan (o .number) (o .place) → r ≡ plannedOf s
+  unfolding plannedOf
+  refused h q = rw (lt-ltb 0 (bookOf s .number) (omega (arith, t .number)), plannedOf) (q ∙ (λ j. refusedPlan (t .number j) (t .place j)))
+
+  module _ (h : o .number ≤ 0) where
+    pay-is : paid (o .starts) (o .values) (o .slopes) (o .counts) (o .ends) ≡ payFrom (bookOf s)
+    pay-is =
+        let g = accepted-opened s (omega (arith, t .number)) in
+        flat-pay (bookOf s) (sym (length-map (bookOf s .records) jobFrom) ∙ g .sound .size) (t .curves)
+
+    pub taken-accepted : Accepted (paid (o .starts) (o .values) (o .slopes) (o .counts) (o .ends)) (o .state) (o .now)
+    taken-accepted =
+        let g = accepted-opened s (omega (arith, t .number)) in
+        record {
+          sound = rw (t .jobs) (g .sound);
+          small = rw (t .jobs) (g .small);
+          holding = record { size = rw (t .holders) (g .holders-size); agree = λ r l. rw (t .jobs, t .holders) (g .holders r) };
+          worth = λ i t′. subst (λ (pay : Pay). natAbs (pay i t′) ≤ 1000000) (sym pay-is) (g .worth i t′);
+          now = omega (arith, t .now, g .now);
+        }
+
+    pub accepted : {r : Planned} → r ≡ answered (paid (o .starts) (o .values) (o .slopes) (o .counts) (o .ends)) (o .state .jobs) (o .now) → r ≡ plannedOf s
+    unfolding plannedOf
+    accepted q = rw (le-ltb 0 (bookOf s .number) (omega (arith, t .number)), plannedOf) (q ∙ (λ j. answered (pay-is j) (t .jobs j) (t .now j)))

@@ -1,0 +1,57 @@
+-- The planner's state after a part, and after a row of parts: the jobs as gus has them, and who holds each resource. Assumes nothing.
+use mathlib.Core.Path.{_≡_, refl}
+use mathlib.Core.Bool.{false, cond}
+use mathlib.Core.List.{List, [], _∷_}
+use Prim.Native.Nat.{ℕ, zero, suc, _<_}
+use native.Mathlib.Nat.{not-suc-le-zero, le-of-suc-le-suc}
+use lib.Dec.{ltb, eqb}
+use lib.ListN.{length, getD}
+use Rattle.laws.specs.Each.{mapIx}
+use Rattle.job.specs.declared.Held.{Held}
+use Rattle.job.specs.declared.Job.{Job}
+use Rattle.job.specs.Held.{free}
+use Rattle.gus.specs.declared.Part.{Part}
+use Rattle.gus.specs.State.{workedBy, after, afterAll}
+use Rattle.gus.specs.Waits.{nobody}
+use Rattle.planner.specs.declared.State.{State}
+
+-- who holds a resource after a part of a job that then has this hold of it:
+-- that job where it has one; nobody where it had one and gave it up; else whoever held it
+abbrev pub holderAfter : ℕ → ℕ → ℕ → ℕ
+holderAfter job hold holder = cond (ltb 0 hold) job (cond (eqb holder job) nobody holder)
+
+-- the same at every resource, by what the job holds after the part
+unfoldable pub holdersAfter : ℕ → List Held → List ℕ → List ℕ
+holdersAfter job held holders = mapIx (λ r. holderAfter job (getD held r free .hold)) holders
+
+abbrev pub afterPart : State → Part → State
+afterPart s p = record {
+  jobs = after (s .jobs) p;
+  holders = holdersAfter (p .job) (workedBy (s .jobs) p .held) (s .holders);
+}
+
+unfoldable pub holdersAll : List Job → List Part → List ℕ → List ℕ
+holdersAll js [] holders = holders
+holdersAll js (p ∷ ps) holders = holdersAll (after js p) ps (holdersAfter (p .job) (workedBy js p .held) holders)
+
+abbrev pub afterParts : State → List Part → State
+afterParts s ps = record { jobs = afterAll (s .jobs) ps; holders = holdersAll (s .jobs) ps (s .holders) }
+
+-- what an array of parts has past its end
+abbrev pub noPart : Part
+noPart = record { job = 0; rolling = false; time = 0 }
+
+-- the first count parts name jobs below 32
+pub record Numbered (count : ℕ) (parts : List Part) : Type 0 where
+  pub below : (k : ℕ) → k < count → getD parts k noPart .job < 32
+
+-- each element of a list changed by its index
+at-index : {A : Type 0} (f : ℕ → A → A) (l : List A) (i : ℕ) (d : A) → i < length l → getD (mapIx f l) i d ≡ f i (getD l i d)
+at-index f [] i d h = absurd (not-suc-le-zero h)
+at-index f (x ∷ l) zero d h = refl
+at-index f (x ∷ l) (suc i) d h = at-index (λ k. f (suc k)) l i d (le-of-suc-le-suc h)
+
+-- one resource's holder after a part
+pub holder-after : (job : ℕ) (held : List Held) (holders : List ℕ) (r : ℕ) → r < length holders → getD (holdersAfter job held holders) r nobody ≡ holderAfter job (getD held r free .hold) (getD holders r nobody)
+unfolding holdersAfter
+holder-after job held holders r h = at-index (λ k. holderAfter job (getD held k free .hold)) holders r nobody h

@@ -1,0 +1,106 @@
+-- A stage from which a round may start, and that it stays so. Assumes nothing.
+use mathlib.Core.Path.{_≡_}
+use mathlib.Core.Bool.{true, false, false≢true}
+use mathlib.Core.List.{List}
+use Prim.Native.Nat.{ℕ, zero, suc, _+_, _*_, _<_, _≤_}
+use native.Mathlib.Nat.{not-suc-le-zero, le-of-suc-le-suc}
+use native.Mathlib.Omega.{arith}
+use lib.IntN.{natAbs}
+use lib.ListN.{length, getD}
+use Rattle.laws.specs.Signed.{abs-add}
+use Rattle.job.specs.declared.Job.{Job}
+use Rattle.gus.specs.declared.Part.{Part}
+use Rattle.gus.specs.declared.Course.{Course}
+use Rattle.gus.specs.declared.Best.{Best}
+use Rattle.gus.specs.View.{Pay, viewOf}
+use Rattle.gus.specs.Course.{denser}
+use Rattle.gus.specs.Choice.{byDensity}
+use Rattle.gus.specs.Group.{Group}
+use Rattle.gus.specs.Round.{worthwhile}
+use Rattle.invariants.specs.Sound.{Member}
+use Rattle.invariants.specs.Waiting.{Ready}
+use Rattle.invariants.specs.Fair.{by-density-fair}
+use Rattle.invariants.specs.Runs.{Runs, last, next, group-runs}
+use Rattle.invariants.specs.Replay.{runs-replay, replay-ready}
+use Rattle.invariants.specs.Left.{countLeft, count-most, runs-count}
+use Rattle.invariants.specs.Burden.{burden, burden-most, runs-burden}
+use Rattle.invariants.specs.Winner.{Won, no-one, some-one}
+use Rattle.invariants.specs.Picked.{picked}
+use Rattle.invariants.specs.End.{Small}
+use Rattle.opening.specs.Modest.{Modest, modest}
+use Rattle.opening.specs.Small.{small-after-all}
+use Rattle.planner.specs.declared.State.{State}
+use Rattle.planner.specs.declared.Stage.{Stage}
+use Rattle.planner.specs.Limits.{small-group}
+use Rattle.planner.specs.Applied.{noPart}
+use Rattle.planner.specs.Holding.{Holding, holding-all}
+use Rattle.planner.specs.Stage.{opening, joinedBy, bestAt, groupAt}
+
+-- jobs as they stand between two rounds, and the holders that the code keeps of them
+pub record Sane (pay : Pay) (s : State) : Type 0 where
+  pub ready : Ready (s .jobs)
+  pub small : Small (s .jobs)
+  pub holding : Holding s
+  pub worth : (i t : ℕ) → natAbs (pay i t) ≤ 1000000
+
+-- each round ends a job, adds at most 32 parts that lower the burden, 32 worths and 32 times
+pub record Fitting (pay : Pay) (s : Stage) : Type 0 where
+  pub jobs : Sane pay (s .state)
+  pub room : s .count + burden (s .state .jobs) ≤ 96
+  pub few : s .rounds + countLeft (s .state .jobs) ≤ 32
+  pub total : natAbs (s .total) ≤ s .rounds * 32000000
+  pub moment : s .moment ≤ 2147483647 + s .rounds * 2097120
+
+pub sane-modest : {pay : Pay} {s : State} → Sane pay s → Modest (viewOf pay (s .jobs))
+sane-modest {pay} y = modest pay (y .worth) (y .ready .sound) (y .small)
+
+pub fitting-begin : {pay : Pay} {s : State} {now : ℕ} → Sane pay s → now ≤ 2147483647 → Fitting pay (opening s now)
+unfolding opening
+fitting-begin y h = record {
+  jobs = y;
+  room = omega (arith, burden-most (y .ready .sound));
+  few = omega (arith, count-most (y .ready .sound));
+  total = omega arith;
+  moment = omega arith;
+}
+
+-- a group worth more than nothing is that of a job left
+winner : {js : List Job} {course : ℕ → Course} (b : Best) → Won denser (Member js) course 32 b → worthwhile (b .course) ≡ true → Member js (b .last)
+winner b (no-one h) w = absurd (false≢true w)
+winner b (some-one i l m e x) w = m
+
+-- every part of a run names a job
+pub numbered : {js₀ js : List Job} {ps : List Part} → Runs js₀ js ps → (k : ℕ) → k < length ps → getD ps k noPart .job < 32
+numbered (last g e l) zero h = g .alive .there
+numbered (last g e l) (suc k) h = absurd (not-suc-le-zero (le-of-suc-le-suc h))
+numbered (next g e u r) zero h = g .alive .there
+numbered (next g e u r) (suc k) h = numbered r k (le-of-suc-le-suc h)
+
+module _ {pay : Pay} {s : Stage} (f : Fitting pay s) where
+  abbrev js : List Job
+  js = s .state .jobs
+
+  pub best-runs : worthwhile (bestAt pay s .course) ≡ true → Runs (s .state .jobs) (s .state .jobs) (groupAt pay s .parts)
+  best-runs w =
+      let y = f .jobs .ready in
+      group-runs pay (s .moment) (bestAt pay s .last) by-density-fair y (winner (bestAt pay s) (picked byDensity pay (s .moment) (y .sound)) w)
+
+  pub fitting-next : worthwhile (bestAt pay s .course) ≡ true → Fitting pay (joinedBy (groupAt pay s) s)
+  unfolding joinedBy
+  fitting-next w =
+      let y = f .jobs .ready in
+      let g : Group = groupAt pay s in
+      let runs : Runs js js (g .parts) = best-runs w in
+      let c = small-group byDensity (viewOf pay js) (s .moment) (sane-modest (f .jobs)) (bestAt pay s .last) in
+      record {
+        jobs = record {
+          ready = replay-ready (runs-replay runs) y;
+          small = small-after-all (f .jobs .small) (g .parts);
+          holding = holding-all (runs-replay runs) (y .sound) (f .jobs .holding);
+          worth = f .jobs .worth;
+        };
+        room = omega (arith, f .room, runs-burden runs (y .sound));
+        few = omega (arith, f .few, runs-count runs (y .sound));
+        total = omega (arith, f .total, abs-add (s .total) (g .course .gain), c .gain);
+        moment = omega (arith, f .moment, c .time);
+      }

@@ -1,0 +1,85 @@
+-- What the caller has of the array of victims: they are those of the definition, by any view of the same jobs, and each is a job. Assumes nothing.
+use mathlib.Core.Path.{_≡_, refl, ap, _∙_}
+use mathlib.Core.Bool.{Bool, true, false}
+use mathlib.Core.List.{List, [], _∷_, _++_}
+use Prim.Native.Nat.{ℕ, zero, suc, _-_, _<_}
+use native.Mathlib.Omega.{arith}
+use lib.Dec.{eqb, leb}
+use lib.ListN.{length, getD, replicate, length-append, length-replicate}
+use lib.Seq.{take-append-seam}
+use Rattle.laws.specs.Fill.{padded}
+use Rattle.gus.specs.Waits.{nobody}
+use Rattle.gus.specs.View.{View}
+use Rattle.gus.specs.Victims.{circleOf, lossOf, offer, victimOf, victimsTo, victimsOf, knotTo, knotOf}
+use Rattle.planner.specs.Bounds.{Modest}
+use Rattle.planner.specs.Offering.{victim-below}
+use Rattle.planner.specs.Listing.{listed, few}
+use Rattle.planner.specs.Settling.{Handed, victimsIn}
+
+-- the view without what no victim depends on; of any view of lent arrays it is `seenWaits`
+abbrev pub withoutHolds : View → View
+withoutHolds v = record {
+  left = λ i. false;
+  waits = v .waits;
+  hold = λ i. 0;
+  undo = λ i. 0;
+  run = v .run;
+  rollback = v .rollback;
+  rolling = v .rolling;
+  worth = v .worth;
+}
+
+pub modest-without : {v : View} → Modest v → Modest (withoutHolds v)
+modest-without m = record { hold = λ i. omega arith; undo = λ i. omega arith; run = m .run; rollback = m .rollback; worth = m .worth }
+
+append-below : (l m : List ℕ) → ((k : ℕ) → getD l k 0 < 32) → ((k : ℕ) → getD m k 0 < 32) → (k : ℕ) → getD (l ++ m) k 0 < 32
+append-below [] m p q k = q k
+append-below (x ∷ l) m p q zero = p 0
+append-below (x ∷ l) m p q (suc k) = append-below l m (λ j. p (suc j)) q k
+
+zeros-below : (n k : ℕ) → getD (replicate n 0) k 0 < 32
+zeros-below zero k = omega arith
+zeros-below (suc n) zero = omega arith
+zeros-below (suc n) (suc k) = zeros-below n k
+
+module _ (v : View) (t : ℕ) where
+  same-victims : (n : ℕ) → victimsTo (withoutHolds v) t n ≡ victimsTo v t n
+  unfolding victimsTo victimOf offer lossOf
+  same-victims zero = refl
+  same-victims (suc n) = ap (λ (l : List ℕ). l ++ elim (eqb (circleOf (v .waits) n) n) [ true ↦ victimOf v t n .last ∷ [] | false ↦ [] ]) (same-victims n)
+
+  same-knot : (n : ℕ) → knotTo (withoutHolds v) t n ≡ knotTo v t n
+  unfolding knotTo victimOf offer lossOf
+  same-knot zero = refl
+  same-knot (suc n) = ap (λ (k : ℕ). elim (leb 32 k) [
+    | true ↦ elim (eqb (circleOf (v .waits) n) n) [ true ↦ elim (victimOf v t n .some) [ true ↦ nobody | false ↦ n ] | false ↦ nobody ]
+    | false ↦ k
+  ]) (same-knot n)
+
+  pub same-listed : listed (withoutHolds v) t ≡ listed v t
+  unfolding listed victimsOf knotOf
+  same-listed = rw (same-victims 32, same-knot 32)
+
+  pub listed-victims : victimsIn (listed v t) ≡ victimsOf v t
+  unfolding listed padded
+  listed-victims = take-append-seam (victimsOf v t) _
+
+  victims-below : (n k : ℕ) → getD (victimsTo v t n) k 0 < 32
+  unfolding victimsTo
+  victims-below zero k = omega arith
+  victims-below (suc n) k = append-below (victimsTo v t n) _ (victims-below n) (by (eqb (circleOf (v .waits) n) n)) k
+    where
+      by : (b : Bool) (j : ℕ) → getD {A = ℕ} (elim b [ true ↦ victimOf v t n .last ∷ [] | false ↦ [] ]) j 0 < 32
+      by true zero = victim-below v t n
+      by true (suc j) = omega arith
+      by false j = omega arith
+
+  pub listed-handed : Handed (listed v t)
+  unfolding listed victimsOf padded
+  listed-handed =
+      let free : ℕ = 32 - length (victimsTo v t 32) in
+      record {
+        size = length-append (victimsTo v t 32) (replicate free 0) ∙ omega (arith, length-replicate {A = ℕ} free 0, few v t 32);
+        few = few v t 32;
+        jobs = append-below (victimsTo v t 32) (replicate free 0) (victims-below 32) (zeros-below free);
+      }

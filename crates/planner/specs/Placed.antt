@@ -1,0 +1,45 @@
+-- A chain at the end of an array of 32 places. Assumes nothing.
+use mathlib.Core.Path.{_≡_, refl, ap, _∙_}
+use mathlib.Core.List.{List, [], _∷_}
+use Prim.Native.Nat.{ℕ, zero, suc, _+_, _-_, _<_}
+use native.Mathlib.Numerals.{add-one}
+use native.Mathlib.Omega.{arith}
+use lib.ListN.{length, getD}
+
+-- n members from place k on
+unfoldable pub placed : List ℕ → ℕ → ℕ → List ℕ
+placed members zero k = []
+placed members (suc n) k = getD members k 0 ∷ placed members n (suc k)
+
+-- the members at places k to 31
+unfoldable pub chainIn : List ℕ → ℕ → List ℕ
+chainIn members k = placed members (32 - k) k
+
+-- each place has a job's number
+pub record Below (m : ℕ) (members : List ℕ) : Type 0 where
+  pub below : (k : ℕ) → getD members k 0 < m
+
+module _ (members : List ℕ) where
+  pub chain-more : (k : ℕ) → k < 32 → chainIn members k ≡ getD members k 0 ∷ chainIn members (k + 1)
+  unfolding chainIn placed
+  chain-more k h = let e : 32 - k ≡ suc (32 - (k + 1)) = omega arith in rw (e, add-one)
+
+  pub chain-last : chainIn members 31 ≡ getD members 31 0 ∷ []
+  unfolding chainIn placed
+  chain-last = refl
+
+  pub chain-two : (k : ℕ) → k < 31 → chainIn members k ≡ getD members k 0 ∷ getD members (k + 1) 0 ∷ chainIn members (k + 2)
+  chain-two k h =
+      let e : k + 1 + 1 ≡ k + 2 = omega arith in
+      rw e at (chain-more k (omega arith) ∙ ap (λ (rest : List ℕ). getD members k 0 ∷ rest) (chain-more (k + 1) (omega arith)))
+
+  pub chain-next : (k : ℕ) → k < 31 → chainIn members (k + 1) ≡ getD members (k + 1) 0 ∷ chainIn members (k + 2)
+  chain-next k h = let e : k + 1 + 1 ≡ k + 2 = omega arith in rw e at (chain-more (k + 1) (omega arith))
+
+  pub length-chain : (k : ℕ) → length (chainIn members k) ≡ 32 - k
+  unfolding chainIn placed
+  length-chain k = by (32 - k) k
+    where
+      by : (n j : ℕ) → length (placed members n j) ≡ n
+      by zero j = refl
+      by (suc n) j = ap suc (by n (suc j))

@@ -1,0 +1,152 @@
+// The plan of a book: the reader's refusal, KNOT, or the victims and the rounds after them.
+ghost use mathlib.Core.Path.{_≡_};
+ghost use Rattle.book.specs.Format.{bookOf};
+ghost use Rattle.planner.specs.Seen.{paid};
+ghost use Rattle.planner.specs.Planned.{refusedPlan, answered, plannedOf};
+ghost use Rattle.planner.specs.Answering.{Accepted, Taken, planIn};
+use crate::Opened;
+use crate::Planned;
+use crate::Stage;
+use crate::State;
+use crate::Victims;
+use crate::flat::lay_curves;
+use crate::lay::lay;
+use crate::listing::victims;
+use crate::rounds::rounds;
+use crate::settle::settle;
+use crate::start::jobs_of;
+use gus::Part;
+
+const KNOT: u8 = 10;
+
+fn refused_plan(number: u8, place: usize) -> Planned
+    ensures { λ r. ⌜ r ≡ refusedPlan number place ⌝ }
+{
+    let empty = Part {
+        job: 0,
+        rolling: false,
+        time: 0,
+    };
+    Planned {
+        number,
+        place,
+        victims: [0u8; 32],
+        victimcount: 0,
+        parts: [empty; 96],
+        count: 0,
+        rounds: 0,
+        total: 0,
+        end: 0,
+    }
+}
+
+// What the plan takes from a book, so that the book is gone before the rounds.
+fn open_book(bytes: &[u8]) -> Opened
+    ensures { λ r. ⌜ Taken (bookOf (now (bytes .entry))) r ⌝ }
+{
+    let b = book::reader::read_book(bytes);
+    let records = b.records;
+    let holders = b.holders;
+    let mut starts = [0u32; 256];
+    let mut values = [0i32; 256];
+    let mut slopes = [0i16; 256];
+    let mut counts = [0u8; 32];
+    let mut ends = [0u32; 32];
+    lay_curves(
+        records,
+        &mut starts,
+        &mut values,
+        &mut slopes,
+        &mut counts,
+        &mut ends,
+    );
+    let jobs = jobs_of(records);
+    let state = State { jobs, holders };
+    Opened {
+        number: b.number,
+        place: b.place,
+        now: b.now,
+        state,
+        starts,
+        values,
+        slopes,
+        counts,
+        ends,
+    }
+}
+
+fn plan_of(v: Victims, s: Stage) -> Planned
+    ensures { λ r. ⌜ r ≡ planIn v s ⌝ }
+{
+    let list = v.list;
+    let parts = s.parts;
+    Planned {
+        number: 0,
+        place: 0,
+        victims: list,
+        victimcount: v.count,
+        parts,
+        count: s.count,
+        rounds: s.rounds,
+        total: s.total,
+        end: s.moment,
+    }
+}
+
+fn answer<'a>(
+    starts: &'a [u32; 256],
+    values: &'a [i32; 256],
+    slopes: &'a [i16; 256],
+    counts: &'a [u8; 32],
+    ends: &'a [u32; 32],
+    s: State,
+    t: u32,
+) -> Planned
+    requires { ⌜ Accepted (paid (now starts) (now values) (now slopes) (now counts) (now ends)) s t ⌝ }
+    ensures { λ r. ⌜ r ≡ answered (paid (now (starts .entry)) (now (values .entry)) (now (slopes .entry)) (now (counts .entry)) (now (ends .entry))) (s .jobs) t ⌝ }
+{
+    let l = lay(s);
+    let v = victims(
+        starts,
+        values,
+        slopes,
+        counts,
+        ends,
+        &l.run,
+        &l.rollback,
+        &l.rolling,
+        &l.waits,
+        t,
+    );
+    if v.knot < 32 {
+        return refused_plan(KNOT, v.knot as usize);
+    }
+    let jobs = s.jobs;
+    let holders = s.holders;
+    let left = settle(jobs, v);
+    let state = State {
+        jobs: left,
+        holders,
+    };
+    let last = rounds(starts, values, slopes, counts, ends, state, t);
+    plan_of(v, last)
+}
+
+pub fn plan(bytes: &[u8]) -> Planned
+    ensures { λ r. ⌜ r ≡ plannedOf (now (bytes .entry)) ⌝ }
+{
+    let o = open_book(bytes);
+    if 0 < o.number {
+        return refused_plan(o.number, o.place);
+    }
+    let state = o.state;
+    answer(
+        &o.starts,
+        &o.values,
+        &o.slopes,
+        &o.counts,
+        &o.ends,
+        state,
+        o.now,
+    )
+}

@@ -1,0 +1,213 @@
+// The best group of a round (VI.1).
+ghost use mathlib.Core.Path.{_≡_};
+ghost use Prim.Native.Nat.{_≤_, _<_};
+ghost use Rattle.gus.specs.Course.{start};
+ghost use Rattle.gus.specs.Choice.{byDensity};
+ghost use Rattle.gus.specs.Group.{grow};
+ghost use Rattle.gus.specs.Round.{better, consider, bestOf};
+ghost use Rattle.planner.specs.Seen.{seen, seenTimes};
+ghost use Rattle.planner.specs.Bounds.{Modest, Planned};
+ghost use Rattle.planner.specs.Placed.{chainIn, Below};
+use crate::chain::follow;
+use crate::choice::rolls_back;
+use crate::course::beats;
+use crate::course::to_end;
+use crate::group::to_free;
+use crate::wide;
+use gus::Best;
+use gus::Course;
+
+// The course of a chain's group, without its parts.
+fn score<'a>(
+    starts: &'a [u32; 256],
+    values: &'a [i32; 256],
+    slopes: &'a [i16; 256],
+    counts: &'a [u8; 32],
+    ends: &'a [u32; 32],
+    run: &'a [u32; 32],
+    rollback: &'a [u32; 32],
+    hold: &'a [u32; 32],
+    undo: &'a [u32; 32],
+    rolling: &'a [bool; 32],
+    members: &'a [u8; 32],
+    from: usize,
+    t: u32,
+) -> Course
+    requires { ⌜ Modest (seenTimes (now starts) (now values) (now slopes) (now counts) (now ends) (now run) (now rollback) (now hold) (now undo) (now rolling)) ⌝ }
+    requires { ⌜ (Below 32 (now members)) × ((from < 32) × Planned t) ⌝ }
+    ensures { λ r. ⌜ r ≡ grow byDensity (seenTimes (now (starts .entry)) (now (values .entry)) (now (slopes .entry)) (now (counts .entry)) (now (ends .entry)) (now (run .entry)) (now (rollback .entry)) (now (hold .entry)) (now (undo .entry)) (now (rolling .entry))) t (chainIn (now (members .entry)) from) start .course ⌝ }
+{
+    let mut c = Course { time: 0, gain: 0 };
+    let mut k = from;
+    while k < 31 {
+        let job = wide(members[k]);
+        let next = wide(members[k + 1]);
+        let back = rolls_back(
+            starts,
+            values,
+            slopes,
+            counts,
+            ends,
+            run,
+            rollback,
+            hold,
+            undo,
+            rolling,
+            members,
+            k,
+            t,
+            c,
+        );
+        c = to_free(
+            starts,
+            values,
+            slopes,
+            counts,
+            ends,
+            run,
+            rollback,
+            hold,
+            undo,
+            rolling,
+            job,
+            next,
+            back,
+            t,
+            c,
+        );
+        k += 1;
+    }
+    let job = wide(members[31]);
+    to_end(
+        starts,
+        values,
+        slopes,
+        counts,
+        ends,
+        run,
+        rollback,
+        hold,
+        undo,
+        rolling,
+        job,
+        t,
+        c,
+    )
+}
+
+// A tie stays with the lower number.
+fn better(job: usize, c: Course, b: Best) -> Best
+    ensures { λ r. ⌜ r ≡ better job c b ⌝ }
+{
+    let best = b.course;
+    if b.some {
+        if beats(c, best) {
+            return Best {
+                some: true,
+                last: job,
+                course: c,
+            };
+        }
+        return b;
+    }
+    Best {
+        some: true,
+        last: job,
+        course: c,
+    }
+}
+
+// A job, if it is left, against the best of those before it.
+fn consider<'a>(
+    starts: &'a [u32; 256],
+    values: &'a [i32; 256],
+    slopes: &'a [i16; 256],
+    counts: &'a [u8; 32],
+    ends: &'a [u32; 32],
+    run: &'a [u32; 32],
+    rollback: &'a [u32; 32],
+    hold: &'a [u32; 32],
+    undo: &'a [u32; 32],
+    rolling: &'a [bool; 32],
+    left: &'a [bool; 32],
+    waits: &'a [u8; 32],
+    job: usize,
+    t: u32,
+    b: Best,
+) -> Best
+    requires { ⌜ Modest (seenTimes (now starts) (now values) (now slopes) (now counts) (now ends) (now run) (now rollback) (now hold) (now undo) (now rolling)) ⌝ }
+    requires { ⌜ (job < 32) × Planned t ⌝ }
+    ensures { λ r. ⌜ r ≡ consider byDensity (seen (now (starts .entry)) (now (values .entry)) (now (slopes .entry)) (now (counts .entry)) (now (ends .entry)) (now (run .entry)) (now (rollback .entry)) (now (hold .entry)) (now (undo .entry)) (now (rolling .entry)) (now (left .entry)) (now (waits .entry))) t job b ⌝ }
+{
+    if left[job] {
+        let chain = follow(waits, job);
+        let from = chain.from;
+        let c = score(
+            starts,
+            values,
+            slopes,
+            counts,
+            ends,
+            run,
+            rollback,
+            hold,
+            undo,
+            rolling,
+            &chain.members,
+            from,
+            t,
+        );
+        return better(job, c, b);
+    }
+    b
+}
+
+// The round's best group, as numbers.
+pub(crate) fn scan<'a>(
+    starts: &'a [u32; 256],
+    values: &'a [i32; 256],
+    slopes: &'a [i16; 256],
+    counts: &'a [u8; 32],
+    ends: &'a [u32; 32],
+    run: &'a [u32; 32],
+    rollback: &'a [u32; 32],
+    hold: &'a [u32; 32],
+    undo: &'a [u32; 32],
+    rolling: &'a [bool; 32],
+    left: &'a [bool; 32],
+    waits: &'a [u8; 32],
+    t: u32,
+) -> Best
+    requires { ⌜ Modest (seenTimes (now starts) (now values) (now slopes) (now counts) (now ends) (now run) (now rollback) (now hold) (now undo) (now rolling)) ⌝ }
+    requires { ⌜ Planned t ⌝ }
+    ensures { λ r. ⌜ r ≡ bestOf byDensity (seen (now (starts .entry)) (now (values .entry)) (now (slopes .entry)) (now (counts .entry)) (now (ends .entry)) (now (run .entry)) (now (rollback .entry)) (now (hold .entry)) (now (undo .entry)) (now (rolling .entry)) (now (left .entry)) (now (waits .entry))) t ⌝ }
+{
+    let none = Course { time: 0, gain: 0 };
+    let mut b = Best {
+        some: false,
+        last: 0,
+        course: none,
+    };
+    let mut job: usize = 0;
+    while job < 32 {
+        b = consider(
+            starts,
+            values,
+            slopes,
+            counts,
+            ends,
+            run,
+            rollback,
+            hold,
+            undo,
+            rolling,
+            left,
+            waits,
+            job,
+            t,
+            b,
+        );
+        job += 1;
+    }
+    b
+}

@@ -1,0 +1,92 @@
+// From the book's records, in book order, to the planner's jobs, each with what it holds by resource.
+ghost use mathlib.Core.Path.{_≡_};
+ghost use mathlib.Core.List.{map};
+ghost use Prim.Native.Nat.{min};
+ghost use Rattle.gus.specs.State.{vacant};
+ghost use Rattle.opening.specs.Start.{withEntry, jobFrom};
+use book::Entry;
+use book::Record;
+use job::Held;
+use job::Job;
+use job::Request;
+
+fn at_most_32(n: usize) -> usize
+    ensures { λ r. ⌜ r ≡ min n 32 ⌝ }
+{
+    if n < 32 { n } else { 32 }
+}
+
+fn with_entry(mut held: [Held; 32], e: Entry) -> [Held; 32]
+    ensures { λ r. ⌜ r ≡ withEntry e held ⌝ }
+{
+    let resource = e.resource as usize;
+    if 32 <= resource {
+        return held;
+    }
+    held[resource] = Held {
+        hold: e.hold,
+        rollback: e.rollback,
+    };
+    held
+}
+
+fn job_of(x: Record) -> Job
+    ensures { λ r. ⌜ r ≡ jobFrom x ⌝ }
+{
+    let free = Held {
+        hold: 0,
+        rollback: 0,
+    };
+    let mut held = [free; 32];
+    let holds = at_most_32(x.holds);
+    let mut i: usize = 0;
+    while i < holds {
+        let e = x.held[i];
+        let laid = with_entry(held, e);
+        held = laid;
+        i += 1;
+    }
+    let request = x.request;
+    Job {
+        rolling: x.mode == 1,
+        run: x.run,
+        rollback: x.rollback,
+        request,
+        held,
+    }
+}
+
+fn no_job() -> Job
+    ensures { λ r. ⌜ r ≡ vacant ⌝ }
+{
+    let free = Held {
+        hold: 0,
+        rollback: 0,
+    };
+    let request = Request {
+        resource: 255,
+        hold: 0,
+        rollback: 0,
+    };
+    Job {
+        rolling: false,
+        run: 0,
+        rollback: 0,
+        request,
+        held: [free; 32],
+    }
+}
+
+pub(crate) fn jobs_of(records: [Record; 32]) -> [Job; 32]
+    ensures { λ r. ⌜ r ≡ map jobFrom records ⌝ }
+{
+    let none = no_job();
+    let mut jobs = [none; 32];
+    let mut i: usize = 0;
+    while i < 32 {
+        let x = records[i];
+        jobs[i] = job_of(x);
+        i += 1;
+    }
+    jobs
+}
