@@ -1,0 +1,47 @@
+/* The planner's calls for C. Link target/staticlib/libilhuepatl.a, which `rt staticlib ilhuepatl` writes.
+   Every call ends, keeps nothing, allocates nothing and asks nothing of its caller but that the lengths are true.
+   Book and output may be any bytes of any length; they must not overlap. */
+#ifndef ILHUEPATL_H
+#define ILHUEPATL_H
+
+#include <stddef.h>
+#include <stdint.h>
+
+#ifdef __cplusplus
+extern "C" {
+#endif
+
+/* A verdict: 0, or a refusal's number and place. */
+#define ILHUEPATL_NUMBER(verdict) ((unsigned)((verdict) >> 32))
+#define ILHUEPATL_PLACE(verdict) ((uint32_t)(verdict))
+
+/* The numbers of a refusal. The place is a byte offset in the book; for KNOT it is a job number. */
+enum {
+    ILHUEPATL_ROOM = 1,
+    ILHUEPATL_SIZE = 2,
+    ILHUEPATL_VERSION = 3,
+    ILHUEPATL_COUNT = 4,
+    ILHUEPATL_CUT = 5,
+    ILHUEPATL_RANGE = 6,
+    ILHUEPATL_TWICE = 7,
+    ILHUEPATL_MODE = 8,
+    ILHUEPATL_TAIL = 9,
+    ILHUEPATL_KNOT = 10
+};
+
+/* An output of this many bytes is always enough, and fewer are refused with ROOM. */
+#define ILHUEPATL_OUTPUT 430
+
+/* Plans a book. 0: the answer's bytes stand at the start of output (their number in its first two bytes, the most
+   significant first), and later bytes keep their values. Else a refusal, and nothing is written. */
+uint64_t ilhuepatl_plan(const uint8_t *book, size_t book_length, uint8_t *output, size_t output_length);
+
+/* Where one job's record stands in a book: its first byte in the upper 16 of the lower 32 bits, and the byte after its
+   last in the lower 16. 0 where the book has no such job. A refused book gives its refusal (never ROOM or KNOT). */
+uint64_t ilhuepatl_record(const uint8_t *book, size_t book_length, size_t job);
+
+#ifdef __cplusplus
+}
+#endif
+
+#endif
