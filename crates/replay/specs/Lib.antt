@@ -14,3 +14,4 @@ pub mod Records
 pub mod Opening
 pub mod Demand
 pub mod Example
+pub mod Whole
