@@ -1,0 +1,175 @@
+//! Everything that is compared about one book.
+
+use crate::difference::{same, Difference};
+use crate::questions::job_numbers;
+use beside::code;
+use beside::decode::decode;
+use beside::fence::Fenced;
+use beside::hex::hex;
+use beside::proved;
+use second::answer::MOST_BYTES;
+use second::{Plan, Refusal};
+
+/// Lengths of the output: none, one too few, just enough, one more, larger.
+/// The plan call is thus made several times about one book, and what it leaves
+/// behind from one call to the next would show.
+const OUTPUTS: [usize; 5] = [0, MOST_BYTES - 1, MOST_BYTES, MOST_BYTES + 1, LARGEST];
+const LARGEST: usize = 1_000;
+
+/// Bytes before the lent output, which no call may touch either.
+const MARGIN: usize = 64;
+
+/// The longest book that `second::make` makes is shorter.
+const LONGEST_BOOK: usize = 1 << 17;
+
+/// What one book brought, for the tally.
+pub struct Met {
+    pub planned: Result<Plan, Refusal>,
+    /// How many job numbers were asked for.
+    pub questions: u64,
+}
+
+pub struct Checker {
+    replay: bool,
+    book: Fenced,
+    output: Fenced,
+}
+
+impl Checker {
+    pub fn new(replay: bool) -> Checker {
+        Checker {
+            replay,
+            book: Fenced::new(LONGEST_BOOK),
+            output: Fenced::new(MARGIN + LARGEST),
+        }
+    }
+
+    pub fn check(&mut self, book: &[u8]) -> Result<Met, Difference> {
+        self.book.last(book.len()).copy_from_slice(book);
+        let mut answer = [0; MOST_BYTES];
+        let verdict = second::answer(book, &mut answer);
+
+        for length in OUTPUTS {
+            let (code, bytes) = match verdict {
+                _ if length < MOST_BYTES => {
+                    let short = second::answer(book, &mut vec![0; length]);
+                    (code::of_plan(&short), None)
+                }
+                Ok(filled) => (0, Some(&answer[..filled])),
+                Err(refusal) => (code::of_refusal(refusal), None),
+            };
+            self.plan(book.len(), length, code, bytes)?;
+        }
+        // What the last call wrote still stands there.
+        let planned = match verdict {
+            Ok(_) => Ok(plan_of(self.output.last(LARGEST))?),
+            Err(refusal) => Err(refusal),
+        };
+        if let (Ok(plan), true) = (&planned, self.replay) {
+            replayed(book, plan)?;
+        }
+        let questions = self.records(book)?;
+
+        // The book is lent to be read alone.
+        same(
+            book,
+            &*self.book.last(book.len()),
+            || "the book's bytes after all calls".to_string(),
+            hex,
+        )?;
+        Ok(Met { planned, questions })
+    }
+
+    /// The plan call into `length` bytes that hold a pattern: its number must be
+    /// `code`, and the bytes must be `bytes` and then the pattern still.
+    fn plan(
+        &mut self,
+        book_length: usize,
+        length: usize,
+        code: u64,
+        bytes: Option<&[u8]>,
+    ) -> Result<(), Difference> {
+        let whole = self.output.last(MARGIN + length);
+        for (at, byte) in whole.iter_mut().enumerate() {
+            *byte = pattern(at, length);
+        }
+        let mut expected = whole.to_vec();
+        let bytes = bytes.unwrap_or(&[]);
+        expected[MARGIN..MARGIN + bytes.len()].copy_from_slice(bytes);
+
+        let got = proved::plan(self.book.last(book_length), &mut whole[MARGIN..]);
+        same(
+            code,
+            got,
+            || format!("the plan's verdict, {length} bytes of output"),
+            code::plan_in_words,
+        )?;
+        same(
+            &expected[..MARGIN],
+            &whole[..MARGIN],
+            || format!("the bytes before {length} bytes of output"),
+            hex,
+        )?;
+        same(
+            &expected[MARGIN..],
+            &whole[MARGIN..],
+            || {
+                format!(
+                    "the {length} bytes of output, {} of them the answer",
+                    bytes.len()
+                )
+            },
+            hex,
+        )
+    }
+
+    /// The record question, and how many numbers were asked for.
+    fn records(&mut self, book: &[u8]) -> Result<u64, Difference> {
+        // `second::record` would read the whole book again for each number.
+        let read = second::book::read(book);
+        let lent = &*self.book.last(book.len());
+        let mut asked = 0;
+        for job in job_numbers(book) {
+            let expected = match &read {
+                Ok(read) => code::of_record(read.records.get(job)),
+                Err(refusal) => code::of_refusal(*refusal),
+            };
+            same(
+                expected,
+                proved::record(lent, job),
+                || format!("the record question for job {job}"),
+                code::record_in_words,
+            )?;
+            asked += 1;
+        }
+        Ok(asked)
+    }
+}
+
+/// The byte that an output of some length holds at a place before the call.
+/// It differs from one length to another, so that a byte which is written over
+/// with the very value that it had is still found.
+fn pattern(at: usize, length: usize) -> u8 {
+    (at * 7 + length * 31 + 3) as u8
+}
+
+/// The plan in the proved planner's own bytes.
+fn plan_of(output: &[u8]) -> Result<Plan, Difference> {
+    match decode(output) {
+        Ok((plan, _)) => Ok(plan),
+        Err(fault) => Err(Difference {
+            question: "reading the answer back".to_string(),
+            second: "gave the same bytes".to_string(),
+            proved: fault,
+        }),
+    }
+}
+
+/// Demand 3 on the second planner's machine.
+fn replayed(book: &[u8], plan: &Plan) -> Result<(), Difference> {
+    second::check_demand3(book, plan).map_err(|fault| Difference {
+        question: "demand 3".to_string(),
+        second: "gave the same plan".to_string(),
+        proved: format!("{fault} in {plan:?}"),
+    })
+}

@@ -1,0 +1,56 @@
+//! The proved planner's C face as two safe functions.
+//!
+//! Nothing checks the declarations below against the proved source, so they
+//! stand here once and nowhere else in Rust.
+
+/// Plans `book` into `out`. 0: accepted, and the answer stands at the start of
+/// `out`. Else number x 2^32 + place of the refusal.
+#[inline]
+pub fn plan(book: &[u8], out: &mut [u8]) -> u64 {
+    // SAFETY: both pointers are good for the lengths given with them, and a
+    // `&mut` slice overlaps no other.
+    unsafe { face::ilhuepatl_plan(book.as_ptr(), book.len(), out.as_mut_ptr(), out.len()) }
+}
+
+/// Where a job's record stands: start x 2^16 + end, or 0 if there is no such
+/// job. For a refused book number x 2^32 + place.
+#[inline]
+pub fn record(book: &[u8], job: usize) -> u64 {
+    // SAFETY: as above; nothing is written.
+    unsafe { face::ilhuepatl_record(book.as_ptr(), book.len(), job) }
+}
+
+#[cfg(not(no_archive))]
+mod face {
+    extern "C" {
+        pub fn ilhuepatl_plan(
+            book: *const u8,
+            book_len: usize,
+            out: *mut u8,
+            out_len: usize,
+        ) -> u64;
+        pub fn ilhuepatl_record(book: *const u8, book_len: usize, job: usize) -> u64;
+    }
+}
+
+/// The build found no archive. Programs that don't ask the proved planner work
+/// all the same.
+#[cfg(no_archive)]
+mod face {
+    pub unsafe fn ilhuepatl_plan(_: *const u8, _: usize, _: *mut u8, _: usize) -> u64 {
+        missing()
+    }
+
+    pub unsafe fn ilhuepatl_record(_: *const u8, _: usize, _: usize) -> u64 {
+        missing()
+    }
+
+    fn missing() -> ! {
+        eprintln!(
+            "this program was built without the proved planner: \
+             target/staticlib/libilhuepatl.a was missing. Run \
+             `rt staticlib ilhuepatl` at the repository root and build again."
+        );
+        std::process::exit(2)
+    }
+}
