@@ -1,4 +1,5 @@
 -- `planner::rounds::rounds` meets its contract: the plan so far, joined with the rounds left, is the whole plan.
+use native.Mathlib.Omega.{arith}
 use Prim.Native.Nat.{_-_}
 use borrow.Author.Needs.{needs}
 use Rattle.gus.specs.Choice.{byDensity}
@@ -30,10 +31,10 @@ loop-less : tie.Need-loop-less Inv-loop μ-loop
 loop-less c = search needs
 
 loop-again : tie.Need-loop-again Inv-loop μ-loop
-loop-again c = rounding-next (c .before .before .before .loop .inv) (c .before .before .loop-test .taken) (c .before .round .ensures) (c .if1 .taken)
+loop-again c = rounding-next (c .before .before .before .loop .inv) (omega arith) (c .before .round .ensures) (c .if1 .taken)
 
 returns : tie.Need-returns Inv-loop μ-loop
-returns c = rounding-stopped (c .before .before .before .loop .inv) (c .before .before .loop-test .taken) (c .before .round .ensures) (c .if1 .left)
+returns c = rounding-stopped (c .before .before .before .loop .inv) (omega arith) (c .before .round .ensures) (c .if1 .left)
 
 returns-2 : tie.Need-returns-2 Inv-loop μ-loop
 returns-2 c = rounding-ended (c .before .loop .inv) (c .loop-test .left)
