@@ -7,7 +7,7 @@ use mathlib.Core.List.{List}
 use lib.ListN.{length, replicate}
 use lib.IntN.{natAbs}
 use borrow.Author.Tests.{lt-ltb, le-ltb, le-leb, leb-true}
-use Rattle.laws.specs.Count.{upto}
+use Rattle.laws.specs.Count.{upto, upto-each}
 use Rattle.laws.specs.Search.{lt-or-le}
 use Rattle.curve.specs.declared.Piece.{Piece}
 use Rattle.curve.specs.Worth.{noPiece, lineAt}
@@ -20,7 +20,6 @@ use Rattle.book.specs.Rules.{signedOf, lineOk}
 use Rattle.book.specs.Format.{startRead, signedRead, pieceRead, pieceNext, piecesRead, endRead, curveRead}
 use Rattle.accepted.specs.Fields.{Onward, Passes, onward, field-got, field-back, ruled-got, ruled-back}
 use Rattle.accepted.specs.Sticks.{unrefused-before, signed-sticks, piece-next-sticks, end-sticks, loop-sticks, loop-sticks-all}
-use Rattle.accepted.specs.Loops.{upto-each}
 use Rattle.accepted.specs.Layout.{Bytes, two-bytes, four-bytes, listed, listed-none, listed-next, listed-at, length-listed, piecePlace, pieceAt, curveAt}
 use Rattle.accepted.specs.Rules.{AllowedCurve}
 use Rattle.accepted.specs.SignedFields.{signed-got, signed-back}

@@ -8,7 +8,7 @@ use mathlib.Core.List.{List}
 use lib.ListN.{length}
 use lib.Dec.{ltb, eqb}
 use borrow.Author.Tests.{lt-ltb, eq-eqb, eqb-true}
-use Rattle.laws.specs.Count.{upto}
+use Rattle.laws.specs.Count.{upto, upto-each}
 use Rattle.laws.specs.Search.{lt-or-le}
 use Rattle.book.specs.declared.Reading.{Reading}
 use Rattle.book.specs.declared.Span.{Span}
@@ -19,7 +19,6 @@ use Rattle.book.specs.Field.{gotAt}
 use Rattle.book.specs.Format.{headerOf, noRecord, noSpan, recordRead, recordNext, noRecords, recordsRead, tailRead, acceptedBook, refusedBook, bookOf}
 use Rattle.accepted.specs.Fields.{Onward, onward, rule-kept, rule-passed}
 use Rattle.accepted.specs.Sticks.{unrefused-before, record-next-sticks, records-sticks, tail-sticks, loop-sticks}
-use Rattle.accepted.specs.Loops.{upto-each}
 use Rattle.accepted.specs.Layout.{Bytes, listed, listed-none, listed-next, recordAt, jobsAt, resourcesAt, nowAt, jobPlace}
 use Rattle.accepted.specs.Holders.{Agree, agree-none, agree-job}
 use Rattle.accepted.specs.Kept.{HeaderKept, RecordKept, BookKept, heldOf, holdsOf}

@@ -1,6 +1,5 @@
 pub mod Fields
 pub mod Sticks
-pub mod Loops
 pub mod Layout
 pub mod Rules
 pub mod Holders

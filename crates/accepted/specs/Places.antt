@@ -8,7 +8,7 @@ use mathlib.Core.List.{List}
 use lib.ListN.{length, getD}
 use lib.Dec.{ltb, leb, eqb}
 use borrow.Author.Tests.{lt-ltb, le-ltb, eqb-false}
-use Rattle.laws.specs.Count.{upto}
+use Rattle.laws.specs.Count.{upto, upto-each}
 use Rattle.laws.specs.Search.{lt-or-le}
 use Rattle.book.specs.declared.Reading.{Reading}
 use Rattle.book.specs.declared.Book.{Book}
@@ -20,7 +20,6 @@ use Rattle.book.specs.Field.{valueAt, refusedAt, gotAt, fieldOf, ruleOf}
 use Rattle.book.specs.Rules.{rollbackOk, requestOk, aroundOk, lineOk, modeOk}
 use Rattle.book.specs.Format.{headerOf, rollbackRead, requestedResource, requestedRollback, requestRead, unheldRead, heldResource, entryRead, entryNext, heldRead, startRead, signedRead, pieceRead, pieceNext, piecesRead, endRead, curveRead, recordRead, recordNext, recordsRead, noRecords, tailRead, bookOf, refusedBook, acceptedBook}
 use Rattle.accepted.specs.Fields.{Onward, onward, field-stays, field-cut, field-outside, field-got, field-passed, rule-stays, rule-broken, rule-kept, rule-passed, ruledOf}
-use Rattle.accepted.specs.Loops.{upto-each}
 use Rattle.accepted.specs.Sticks.{Sticks, sticks-then, unrefused-before, field-sticks, rollback-sticks, request-sticks, held-sticks, curve-sticks}
 
 -- the place that stands beside a number

@@ -5,12 +5,9 @@ use mathlib.Core.Bool.{cond}
 use mathlib.Core.List.{List}
 use lib.Dec.{ltb, leb, eqb}
 use lib.ListN.{length, getD, set, replicate}
-use lib.IntN.{pos}
 use Rattle.laws.specs.Count.{upto}
 use Rattle.curve.specs.declared.Piece.{Piece}
-use Rattle.curve.specs.declared.Curve.{Curve}
 use Rattle.curve.specs.Worth.{noPiece}
-use Rattle.job.specs.declared.Request.{Request}
 use Rattle.book.specs.declared.Reading.{Reading}
 use Rattle.book.specs.declared.Header.{Header}
 use Rattle.book.specs.declared.Entry.{Entry}
@@ -26,8 +23,8 @@ use Rattle.book.specs.declared.pieces.CurveRead.{CurveRead}
 use Rattle.book.specs.declared.reader.RecordRead.{RecordRead}
 use Rattle.book.specs.declared.reader.Records.{Records}
 use Rattle.book.specs.Refusal.{SIZE, VERSION, COUNT, RANGE, TWICE, MODE, TAIL}
-use Rattle.book.specs.Field.{fieldOf, ruleOf, gotAt, refusedAt}
-use Rattle.book.specs.Rules.{rollbackOk, requestOk, ifRequested, leastRollback, modeOk, signedOf, aroundOk, lineOk, pieceFrom}
+use Rattle.book.specs.Field.{fieldOf, ruleOf, gotAt}
+use Rattle.book.specs.Rules.{rollbackOk, requestOk, ifRequested, leastRollback, modeOk, aroundOk, lineOk, pieceFrom}
 
 -- THE HEADER: "length 2 bytes (the whole book), version 1 byte (1), jobs 1, resources 1, now 4"
 unfoldable pub headerOf : List ℕ → Header

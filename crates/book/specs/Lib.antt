@@ -6,4 +6,5 @@ pub mod Format
 pub mod Onward
 pub mod Question
 pub mod Spans
+pub mod Size
 pub mod Example

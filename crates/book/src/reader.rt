@@ -1,7 +1,6 @@
 // Header, records, and the whole book.
 ghost use mathlib.Core.Path.{_≡_};
-ghost use Prim.Native.Nat.{_<_, _≤_};
-ghost use Rattle.book.specs.Format.{Headed, noRecord, recordRead, recordsRead, tailRead, refusedBook, bookOf};
+ghost use Rattle.book.specs.Format.{Headed, noRecord, recordRead, tailRead, bookOf};
 use crate::Book;
 use crate::Entry;
 use crate::Header;
@@ -31,6 +30,7 @@ pub struct RecordRead {
     pub job: Record,
 }
 
+// The locals of `read_book`'s loop together: no code makes one, and the definition of a book's records (specs/Format) speaks of it.
 pub struct Records {
     pub reading: Reading,
     pub records: [Record; 32],
@@ -124,18 +124,26 @@ fn no_record() -> Record
     }
 }
 
-fn records_read(s: &[u8], jobs: usize, resources: usize, r: Reading) -> Records
-    requires { ⌜ jobs ≤ 32 ⌝ }
-    ensures { λ o. ⌜ o ≡ recordsRead (now (s .entry)) jobs resources r ⌝ }
+fn tail(s: &[u8], r: Reading) -> Reading
+    ensures { λ o. ⌜ o ≡ tailRead (now (s .entry)) r ⌝ }
 {
+    rule(r, r.next == s.len(), TAIL, r.next)
+}
+
+// The whole book, or its refusal alone. The loop is here, and a refusal wipes the arrays in place, for the stack: a function that
+// handed the records on by value would hold their 10 KB again.
+pub fn read_book(s: &[u8]) -> Book
+    ensures { λ o. ⌜ o ≡ bookOf (now (s .entry)) ⌝ }
+{
+    let h = header(s);
     let none = no_record();
-    let mut reading = r;
+    let mut reading = h.reading;
     let mut records = [none; 32];
     let mut holders = [255u8; 32];
     let mut spans = [Span { start: 0, end: 0 }; 32];
     let mut i: usize = 0;
-    while i < jobs {
-        let x = record_read(s, i as u8, resources, holders, reading);
+    while i < h.jobs {
+        let x = record_read(s, i as u8, h.resources, holders, reading);
         let start = reading.next;
         reading = x.reading;
         let job = x.job;
@@ -147,55 +155,27 @@ fn records_read(s: &[u8], jobs: usize, resources: usize, r: Reading) -> Records
         };
         i += 1;
     }
-    Records {
-        reading,
-        records,
-        holders,
-        spans,
-    }
-}
-
-fn tail(s: &[u8], r: Reading) -> Reading
-    ensures { λ o. ⌜ o ≡ tailRead (now (s .entry)) r ⌝ }
-{
-    rule(r, r.next == s.len(), TAIL, r.next)
-}
-
-fn refused_book(number: u8, place: usize) -> Book
-    ensures { λ o. ⌜ o ≡ refusedBook number place ⌝ }
-{
-    let none = no_record();
-    Book {
-        number,
-        place,
-        now: 0,
-        jobs: 0,
-        resources: 0,
-        records: [none; 32],
-        holders: [255u8; 32],
-        spans: [Span { start: 0, end: 0 }; 32],
-    }
-}
-
-// The whole book, or its refusal alone.
-pub fn read_book(s: &[u8]) -> Book
-    ensures { λ o. ⌜ o ≡ bookOf (now (s .entry)) ⌝ }
-{
-    let h = header(s);
-    let reading = h.reading;
-    let b = records_read(s, h.jobs, h.resources, reading);
-    let r = b.reading;
-    let last = tail(s, r);
+    let last = tail(s, reading);
     if 0 < last.number {
-        return refused_book(last.number, last.place);
+        records = [none; 32];
+        holders = [255u8; 32];
+        spans = [Span { start: 0, end: 0 }; 32];
+        return Book {
+            number: last.number,
+            place: last.place,
+            now: 0,
+            jobs: 0,
+            resources: 0,
+            records,
+            holders,
+            spans,
+        };
     }
-    let records = b.records;
-    let holders = b.holders;
-    let spans = b.spans;
+    let now = h.now as u32;
     Book {
         number: 0,
         place: 0,
-        now: h.now as u32,
+        now,
         jobs: h.jobs,
         resources: h.resources,
         records,

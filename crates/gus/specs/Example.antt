@@ -1,10 +1,10 @@
 -- Worked examples: cases 5, 9, 11 and 12 of 01, computed. Assumes nothing.
 use mathlib.Core.Path.{_≡_, refl}
-use mathlib.Core.Bool.{Bool, true, false}
+use mathlib.Core.Bool.{true, false}
 use mathlib.Core.List.{List, [], _∷_, _++_}
 use Prim.Native.Nat.{ℕ}
 use lib.ListN.{getD, replicate, set}
-use lib.IntN.{ℤ, pos}
+use lib.IntN.{pos}
 use Rattle.laws.specs.Count.{upto}
 use Rattle.curve.specs.Density.{denserThan}
 use Rattle.job.specs.declared.Held.{Held}
@@ -21,7 +21,7 @@ use Rattle.gus.specs.Choice.{reckonOne, reckon, byDensity}
 use Rattle.gus.specs.Group.{toFree, partOf, grow, groupOf}
 use Rattle.gus.specs.Round.{better, consider, bestOf, rounds}
 use Rattle.gus.specs.Victims.{circleFrom, circleOf, lossOf, lesser, offer, victimOf, victimsTo, victimsOf, knotTo, knotOf, settled}
-use Rattle.gus.specs.Plan.{Answer, answerBy, answerOf}
+use Rattle.gus.specs.Plan.{answerBy, answerOf}
 
 abbrev none : List Held
 none = replicate 32 free

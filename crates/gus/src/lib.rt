@@ -16,6 +16,6 @@ pub struct Course {
 // The best group so far: whether there is one, its last job, its course.
 pub struct Best {
     pub some: bool,
-    pub last: usize,
+    pub last: u8,
     pub course: Course,
 }

@@ -2,7 +2,7 @@
 use Prim.Native.Nat.{ℕ, zero, suc, _+_, _-_, _<_, _≤_}
 use native.Mathlib.Nat.{not-suc-le-zero}
 use native.Mathlib.Omega.{arith}
-use mathlib.Core.Path.{_≡_, refl, sym, ap, _∙_}
+use mathlib.Core.Path.{_≡_, sym, ap, _∙_}
 use mathlib.Core.Logic.{inl, inr}
 use Rattle.laws.specs.Search.{lt-or-le, Repeat, pigeonhole}
 use Rattle.laws.specs.Walk.{step, follow, step-in, follow-zero, follow-in, follow-out, follow-last, follow-add, follow-part, was-in}

@@ -10,6 +10,12 @@ module _ {B : Type 0} where
   upto f zero b = b
   upto f (suc i) b = f i (upto f i b)
 
+-- What holds before the first turn, and after each turn if it held before it, holds after every turn.
+pub upto-each : {B : Type 0} (P : ℕ → B → Type 0) (f : ℕ → B → B) (n : ℕ) (b : B) → P 0 b → ((m : ℕ) → m < n → P m (upto f m b) → P (suc m) (f m (upto f m b))) → (m : ℕ) → m ≤ n → P m (upto f m b)
+unfolding upto
+upto-each P f n b first next zero h = first
+upto-each P f n b first next (suc m) h = next m h (upto-each P f n b first next m (omega arith))
+
 pub record Counting {B : Type 0} (f : ℕ → B → B) (n : ℕ) (b₀ b : B) (i : ℕ) : Type 0 where
   pub within : i ≤ n
   pub so-far : b ≡ upto f i b₀

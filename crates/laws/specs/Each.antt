@@ -2,10 +2,9 @@
 use Prim.Native.Nat.{ℕ, zero, suc, _+_, _<_, _≤_}
 use native.Mathlib.Nat.{not-suc-le-zero, le-of-suc-le-suc}
 use native.Mathlib.Numerals.{add-one}
-use mathlib.Core.Path.{_≡_, refl, sym, ap, subst, _∙_}
+use mathlib.Core.Path.{_≡_, refl, ap, _∙_}
 use mathlib.Core.List.{List, [], _∷_, map}
-use lib.ListN.{length, getD, set, drop, drop-of-length-le}
-use lib.Seq.{drop-cons}
+use lib.ListN.{length, getD, set}
 use native.Mathlib.Omega.{arith}
 
 module _ {A : Type 0} where
@@ -18,11 +17,6 @@ module _ {A : Type 0} where
   done f zero l = l
   done f (suc n) [] = []
   done f (suc n) (x ∷ l) = f 0 x ∷ done (λ k. f (suc k)) n l
-
-  pub length-done : (f : ℕ → A → A) (n : ℕ) (l : List A) → length (done f n l) ≡ length l
-  length-done f zero l = refl
-  length-done f (suc n) [] = refl
-  length-done f (suc n) (x ∷ l) = ap suc (length-done (λ k. f (suc k)) n l)
 
   done-suc : (f : ℕ → A → A) (l : List A) (n : ℕ) (d : A) → n < length l → set (done f n l) n (f n (getD (done f n l) n d)) ≡ done f (suc n) l
   done-suc f [] n d h = absurd (not-suc-le-zero h)
@@ -46,6 +40,11 @@ module _ {A : Type 0} where
   pub length-mapIx : (f : ℕ → A → A) (l : List A) → length (mapIx f l) ≡ length l
   length-mapIx f [] = refl
   length-mapIx f (x ∷ l) = ap suc (length-mapIx (λ k. f (suc k)) l)
+
+  pub at-mapIx : (f : ℕ → A → A) (l : List A) (i : ℕ) (d : A) → i < length l → getD (mapIx f l) i d ≡ f i (getD l i d)
+  at-mapIx f [] i d h = absurd (not-suc-le-zero h)
+  at-mapIx f (x ∷ l) zero d h = refl
+  at-mapIx f (x ∷ l) (suc i) d h = at-mapIx (λ k. f (suc k)) l i d (le-of-suc-le-suc h)
 
 -- The loop's whole invariant: of the n elements of l, the first i are changed in a.
 pub record Doing {A : Type 0} (f : ℕ → A → A) (n : ℕ) (l a : List A) (i : ℕ) : Type 0 where

@@ -1,4 +1,5 @@
 pub mod Signed
+pub mod Inside
 pub mod Each
 pub mod Count
 pub mod Fill

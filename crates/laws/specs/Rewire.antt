@@ -6,7 +6,7 @@ use mathlib.Core.Path.{_≡_, sym, _∙_}
 use mathlib.Core.Logic.{_⊎_, inl, inr}
 use Rattle.laws.specs.Search.{lt-or-le}
 use Rattle.laws.specs.Walk.{follow, follow-zero, follow-in, same-walk}
-use Rattle.laws.specs.Circle.{OnCircle, NoCircle, Reaches, Leaves, circle-of-reached, circle-after, circle-in, circle-not-left}
+use Rattle.laws.specs.Circle.{OnCircle, NoCircle, Leaves, circle-after, circle-in, circle-not-left}
 
 module _ {f g : ℕ → ℕ} {n : ℕ} where
   -- where each node is as in f or its walk in g ends, g is f all along a circle of g

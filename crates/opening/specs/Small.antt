@@ -9,12 +9,12 @@ use Rattle.job.specs.declared.Job.{Job}
 use Rattle.book.specs.declared.Book.{Book}
 use Rattle.accepted.specs.Good.{Good}
 use Rattle.gus.specs.declared.Part.{Part}
-use Rattle.gus.specs.State.{after, afterAll}
+use Rattle.gus.specs.State.{afterAll}
 use Rattle.gus.specs.Victims.{settled}
 use Rattle.invariants.specs.End.{Small}
 use Rattle.opening.specs.Start.{jobFrom, jobsFrom}
 use Rattle.opening.specs.Sound.{job-is, job-past}
-use Rattle.opening.specs.Falls.{Falls, after-falls, all-falls, settled-falls}
+use Rattle.opening.specs.Falls.{Falls, all-falls, settled-falls}
 
 -- "Run time left: 1 to 60,000"
 pub small-from : {b : Book} → Good b → Small (jobsFrom b)
@@ -32,9 +32,6 @@ module _ {js : List Job} (s : Small js) where
 
   pub small-settled : (is : List ℕ) → Small (settled js is)
   small-settled is = small-falls (settled-falls js is)
-
-  pub small-after : (p : Part) → Small (after js p)
-  small-after p = small-falls (after-falls js p)
 
   pub small-after-all : (ps : List Part) → Small (afterAll js ps)
   small-after-all ps = small-falls (all-falls js ps)

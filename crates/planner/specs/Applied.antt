@@ -1,12 +1,11 @@
 -- The planner's state after a part, and after a row of parts: the jobs as gus has them, and who holds each resource. Assumes nothing.
-use mathlib.Core.Path.{_≡_, refl}
+use mathlib.Core.Path.{_≡_}
 use mathlib.Core.Bool.{false, cond}
 use mathlib.Core.List.{List, [], _∷_}
-use Prim.Native.Nat.{ℕ, zero, suc, _<_}
-use native.Mathlib.Nat.{not-suc-le-zero, le-of-suc-le-suc}
+use Prim.Native.Nat.{ℕ, _<_}
 use lib.Dec.{ltb, eqb}
 use lib.ListN.{length, getD}
-use Rattle.laws.specs.Each.{mapIx}
+use Rattle.laws.specs.Each.{mapIx, at-mapIx}
 use Rattle.job.specs.declared.Held.{Held}
 use Rattle.job.specs.declared.Job.{Job}
 use Rattle.job.specs.Held.{free}
@@ -45,13 +44,7 @@ noPart = record { job = 0; rolling = false; time = 0 }
 pub record Numbered (count : ℕ) (parts : List Part) : Type 0 where
   pub below : (k : ℕ) → k < count → getD parts k noPart .job < 32
 
--- each element of a list changed by its index
-at-index : {A : Type 0} (f : ℕ → A → A) (l : List A) (i : ℕ) (d : A) → i < length l → getD (mapIx f l) i d ≡ f i (getD l i d)
-at-index f [] i d h = absurd (not-suc-le-zero h)
-at-index f (x ∷ l) zero d h = refl
-at-index f (x ∷ l) (suc i) d h = at-index (λ k. f (suc k)) l i d (le-of-suc-le-suc h)
-
 -- one resource's holder after a part
 pub holder-after : (job : ℕ) (held : List Held) (holders : List ℕ) (r : ℕ) → r < length holders → getD (holdersAfter job held holders) r nobody ≡ holderAfter job (getD held r free .hold) (getD holders r nobody)
 unfolding holdersAfter
-holder-after job held holders r h = at-index (λ k. holderAfter job (getD held k free .hold)) holders r nobody h
+holder-after job held holders r h = at-mapIx (λ k. holderAfter job (getD held k free .hold)) holders r nobody h

@@ -6,11 +6,11 @@ use native.Mathlib.Numerals.{add-one}
 use lib.ListN.{length, getD, set, drop, drop-of-length-le, length-set}
 use lib.Seq.{drop-cons}
 use native.Mathlib.Omega.{arith}
+use Rattle.laws.specs.Inside.{inside}
 use Rattle.job.specs.declared.Job.{Job}
 use Rattle.job.specs.Job.{noJob, worked}
 use Rattle.gus.specs.declared.Part.{Part}
 use Rattle.gus.specs.State.{vacant}
-use Rattle.planner.specs.Table.{same-within}
 use Rattle.gus.specs.State.{afterAll}
 use Rattle.planner.specs.declared.State.{State}
 use Rattle.planner.specs.Applied.{holdersAfter, holdersAll, afterPart, afterParts, noPart}
@@ -39,4 +39,4 @@ pub made : (s : State) (p : Part) {number : ℕ} {j : Job} {holders : List ℕ}
     → j ≡ worked (p .rolling) (p .time) (getD (s .jobs) number noJob)
     → holders ≡ holdersAfter (p .job) (j .held) (s .holders)
     → _≡_ {A = State} (record { jobs = set (s .jobs) number j; holders = holders }) (afterPart s p)
-made s p lt size n w h = rw (h, w, n, same-within (s .jobs) (p .job) noJob vacant (omega arith))
+made s p lt size n w h = rw (h, w, n, inside (s .jobs) (p .job) noJob vacant (omega arith))

@@ -1,12 +1,12 @@
 -- The walk along a circle of waits, and the circle of each job. Assumes nothing.
 use mathlib.Core.Path.{_≡_, refl, sym, _∙_}
-use mathlib.Core.List.{List, [], _∷_}
+use mathlib.Core.List.{List}
 use Prim.Native.Nat.{ℕ, zero, suc, _-_, _<_, _≤_, min}
-use native.Mathlib.Nat.{not-suc-le-zero, le-of-suc-le-suc}
+use native.Mathlib.Nat.{not-suc-le-zero}
 use native.Mathlib.Omega.{arith}
 use borrow.Author.Tests.{le-leb, lt-leb, eq-eqb, ne-eqb}
-use lib.ListN.{length, getD, replicate}
-use Rattle.laws.specs.Each.{mapIx}
+use lib.ListN.{getD, replicate}
+use Rattle.laws.specs.Each.{mapIx, at-mapIx}
 use Rattle.gus.specs.Waits.{nobody}
 use Rattle.gus.specs.Victims.{circleFrom, circleOf}
 
@@ -60,11 +60,6 @@ module _ {waits : ℕ → ℕ} {home : ℕ} where
 -- the circle of each of the 32 jobs, by number
 unfoldable pub circlesOf : (ℕ → ℕ) → List ℕ
 circlesOf waits = mapIx (λ job none. circleOf waits job) (replicate 32 nobody)
-
-at-mapIx : {A : Type 0} (f : ℕ → A → A) (l : List A) (i : ℕ) (d : A) → i < length l → getD (mapIx f l) i d ≡ f i (getD l i d)
-at-mapIx f [] i d h = absurd (not-suc-le-zero h)
-at-mapIx f (x ∷ l) zero d h = refl
-at-mapIx f (x ∷ l) (suc i) d h = at-mapIx (λ k. f (suc k)) l i d (le-of-suc-le-suc h)
 
 pub circle-at : {circles : List ℕ} (waits : ℕ → ℕ) (job : ℕ) → circles ≡ circlesOf waits → job < 32 → getD circles job 0 ≡ circleOf waits job
 unfolding circlesOf

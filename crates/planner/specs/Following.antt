@@ -5,10 +5,11 @@ use Prim.Native.Nat.{ℕ, zero, suc, _+_, _-_, _<_, _≤_}
 use native.Mathlib.Nat.{not-suc-le-zero}
 use native.Mathlib.Omega.{arith}
 use borrow.Author.Tests.{le-leb, lt-leb}
-use lib.ListN.{length, getD, set, replicate, length-set}
+use lib.ListN.{length, getD, set, length-set}
 use lib.Seq.{getD-set-same, getD-set-other}
+use Rattle.laws.specs.Inside.{inside}
 use Rattle.gus.specs.Waits.{nobody, chainTo, chainOf}
-use Rattle.planner.specs.Seen.{waiting, inside}
+use Rattle.planner.specs.Seen.{waiting}
 use Rattle.planner.specs.Placed.{Below, placed, chainIn, chain-more}
 
 -- an array and a place that hold the chain of i
@@ -23,11 +24,6 @@ set-below m x (y ∷ ys) zero zero p h = p
 set-below m x (y ∷ ys) zero (suc j) p h = h
 set-below m x (y ∷ ys) (suc k) zero p h = h
 set-below m x (y ∷ ys) (suc k) (suc j) p h = set-below m x ys k j p h
-
-zeros-below : (m n j : ℕ) → 0 < m → getD (replicate n 0) j 0 < m
-zeros-below m zero j p = p
-zeros-below m (suc n) zero p = p
-zeros-below m (suc n) (suc j) p = zeros-below m n j p
 
 placed-set : (l : List ℕ) (k x n j : ℕ) → k < j → placed (set l k x) n j ≡ placed l n j
 unfolding placed
@@ -67,14 +63,14 @@ pub record Following (waits : List ℕ) (i : ℕ) (members : List ℕ) (from job
   pub chain : chainTo (waiting waits) from job (chainIn members from) ≡ chainOf (waiting waits) i
 
 module _ (waits : List ℕ) (i : ℕ) where
-  pub following-begin : (job : ℕ) → length waits ≡ 32 → i < 32 → job ≡ getD waits i 0 → Following waits i (set (replicate 32 0) 31 i) 31 job
+  pub following-begin : (l : List ℕ) (job : ℕ) → length waits ≡ 32 → length l ≡ 32 → Below 32 l → i < 32 → job ≡ getD waits i 0 → Following waits i (set l 31 i) 31 job
   unfolding chainOf chainIn placed
-  following-begin job s h e = record {
+  following-begin l job s n b h e = record {
     size = s;
     low = omega arith;
-    long = refl;
-    below = record { below = λ j. set-below 32 i (replicate 32 0) 31 j h (zeros-below 32 32 j (omega arith)) };
-    chain = rw (read waits i job s h e) (sym (one (waiting waits) 32 i [] (omega arith) h));
+    long = length-set l 31 i ∙ n;
+    below = record { below = λ j. set-below 32 i l 31 j h (b .below j) };
+    chain = rw (chain-set l 31 i n (omega arith), read waits i job s h e) (sym (one (waiting waits) 32 i [] (omega arith) h));
   }
 
   module _ (l : List ℕ) (from job : ℕ) (f : Following waits i l from job) where

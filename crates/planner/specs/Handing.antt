@@ -13,6 +13,7 @@ use Rattle.gus.specs.View.{View}
 use Rattle.gus.specs.Victims.{circleOf, lossOf, offer, victimOf, victimsTo, victimsOf, knotTo, knotOf}
 use Rattle.planner.specs.Bounds.{Modest}
 use Rattle.planner.specs.Offering.{victim-below}
+use Rattle.planner.specs.Placed.{zeros-below}
 use Rattle.planner.specs.Listing.{listed, few}
 use Rattle.planner.specs.Settling.{Handed, victimsIn}
 
@@ -36,11 +37,6 @@ append-below : (l m : List ℕ) → ((k : ℕ) → getD l k 0 < 32) → ((k : �
 append-below [] m p q k = q k
 append-below (x ∷ l) m p q zero = p 0
 append-below (x ∷ l) m p q (suc k) = append-below l m (λ j. p (suc j)) q k
-
-zeros-below : (n k : ℕ) → getD (replicate n 0) k 0 < 32
-zeros-below zero k = omega arith
-zeros-below (suc n) zero = omega arith
-zeros-below (suc n) (suc k) = zeros-below n k
 
 module _ (v : View) (t : ℕ) where
   same-victims : (n : ℕ) → victimsTo (withoutHolds v) t n ≡ victimsTo v t n
@@ -81,5 +77,5 @@ module _ (v : View) (t : ℕ) where
       record {
         size = length-append (victimsTo v t 32) (replicate free 0) ∙ omega (arith, length-replicate {A = ℕ} free 0, few v t 32);
         few = few v t 32;
-        jobs = append-below (victimsTo v t 32) (replicate free 0) (victims-below 32) (zeros-below free);
+        jobs = append-below (victimsTo v t 32) (replicate free 0) (victims-below 32) (zeros-below 32 free (omega arith) .below);
       }

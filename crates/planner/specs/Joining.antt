@@ -1,12 +1,12 @@
 -- What a round finds by the lent arrays is what the definition finds by the jobs, and its group can be joined to the plan. Assumes nothing.
 use mathlib.Core.Path.{_≡_, sym, ap, _∙_}
-use mathlib.Core.Bool.{Bool, true, false}
+use mathlib.Core.Bool.{Bool, true}
 use mathlib.Core.List.{List}
 use Prim.Native.Nat.{ℕ, _+_, _-_, _<_, _≤_}
 use native.Mathlib.Omega.{arith}
 use lib.IntN.{ℤ, natAbs, _+ℤ_}
-use lib.ListN.{length, getD, take, replicate, length-append, length-replicate, List·getD-append}
-use lib.Seq.{take-append-seam, length-take-le}
+use lib.ListN.{length, getD, take, replicate, List·getD-append}
+use lib.Seq.{take-append-seam}
 use Rattle.laws.specs.Fill.{padded}
 use Rattle.gus.specs.declared.Best.{Best}
 use Rattle.gus.specs.declared.Part.{Part}
@@ -14,7 +14,6 @@ use Rattle.gus.specs.View.{Pay, View, viewOf}
 use Rattle.gus.specs.Choice.{byDensity}
 use Rattle.gus.specs.Group.{Group, groupOf}
 use Rattle.gus.specs.Round.{bestOf, worthwhile}
-use Rattle.invariants.specs.Left.{runs-count}
 use Rattle.invariants.specs.Burden.{runs-burden}
 use Rattle.planner.specs.declared.State.{State}
 use Rattle.planner.specs.declared.Links.{Links}
@@ -29,40 +28,23 @@ use Rattle.planner.specs.Limits.{group-short, best-below, small-group}
 use Rattle.planner.specs.Applied.{afterParts, noPart, Numbered}
 use Rattle.planner.specs.Appended.{appended}
 use Rattle.planner.specs.Holding.{agreeing}
-use Rattle.planner.specs.Stage.{ended, groupIn, joinedBy, bestAt, groupAt, roundFrom}
+use Rattle.planner.specs.Stage.{joinedBy, bestAt, groupAt}
 use Rattle.planner.specs.Fitting.{Fitting, sane-modest, numbered, best-runs}
 
 -- a group that can be joined to a stage: the parts find room, and no number grows too large
 pub record Joinable (s : Stage) (g : GroupParts) : Type 0 where
-  pub size : length (g .parts) ≡ 32
   pub few : g .count ≤ 32
   pub room : s .count + g .count ≤ 96
   pub jobs : Numbered (g .count) (g .parts)
-  pub rounds : s .rounds < 32
   pub total : natAbs (s .total) ≤ 1024000000
   pub gain : natAbs (g .course .gain) ≤ 32000000
   pub moment : Planned (s .moment)
   pub time : g .course .time ≤ 2097120
 
-pub joined-made : {s : Stage} {g : GroupParts} {state : State} {parts : List Part} {total : ℤ}
-    → Joinable s g
-    → state ≡ afterParts (s .state) (take (g .count) (g .parts))
-    → parts ≡ appended (s .parts) (s .count) (take (g .count) (g .parts))
-    → total ≡ s .total +ℤ g .course .gain
-    → _≡_ {A = Stage} (record { state = state; parts = parts; count = s .count + g .count; rounds = s .rounds + 1; total = total; moment = s .moment + g .course .time; going = true }) (joinedBy (groupIn g) s)
-unfolding joinedBy
-joined-made {s} {g} y a p t =
-    let n : g .count ≡ length (take (g .count) (g .parts)) = sym (length-take-le (g .count) (g .parts) (omega (arith, y .size, y .few))) in
-    λ j. record { state = a j; parts = p j; count = s .count + n j; rounds = s .rounds + 1; total = t j; moment = s .moment + g .course .time; going = true }
-
--- a group laid out is that group
-group-in : (g : Group) → groupIn (laidOut g) ≡ g
+-- the parts of a group laid out are that group's
+laid-parts : (g : Group) → take (laidOut g .count) (laidOut g .parts) ≡ g .parts
 unfolding laidOut padded
-group-in g = λ j. record { parts = take-append-seam (g .parts) (replicate (32 - length (g .parts)) emptyPart) j; course = g .course }
-
-laid-size : (g : Group) → length (g .parts) ≤ 32 → length (laidOut g .parts) ≡ 32
-unfolding laidOut padded
-laid-size g h = omega (arith, length-append (g .parts) (replicate (32 - length (g .parts)) emptyPart), length-replicate (32 - length (g .parts)) emptyPart)
+laid-parts g = take-append-seam (g .parts) (replicate (32 - length (g .parts)) emptyPart)
 
 laid-numbered : (g : Group) → ((k : ℕ) → k < length (g .parts) → getD (g .parts) k noPart .job < 32) → Numbered (length (g .parts)) (laidOut g .parts)
 unfolding laidOut padded
@@ -75,10 +57,6 @@ module _ (pay : Pay) (s : Stage) where
   pub round-test : {b : Best} {x y : Bool} → b ≡ bestAt pay s → x ≡ worthwhile (b .course) → x ≡ y → worthwhile (bestAt pay s .course) ≡ y
   round-test d e q = ap (λ (z : Best). worthwhile (z .course)) (sym d) ∙ sym e ∙ q
 
-  pub round-ended : {r : Stage} → worthwhile (bestAt pay s .course) ≡ false → r ≡ ended s → r ≡ roundFrom pay s
-  unfolding roundFrom
-  round-ended w e = rw (w, roundFrom) e
-
   module _ {g : GroupParts} (e : g ≡ laidOut (groupAt pay s)) where
     pub joinable : Fitting pay s → worthwhile (bestAt pay s .course) ≡ true → Joinable s g
     unfolding laidOut
@@ -86,20 +64,33 @@ module _ (pay : Pay) (s : Stage) where
         let v : View = viewOf pay (s .state .jobs) in
         let c = small-group byDensity v (s .moment) (sane-modest (f .jobs)) (bestAt pay s .last) in
         rw e (record {
-          size = laid-size (groupAt pay s) (group-short byDensity v (s .moment) (bestAt pay s .last));
           few = group-short byDensity v (s .moment) (bestAt pay s .last);
           room = omega (arith, f .room, runs-burden (best-runs f w) (f .jobs .ready .sound));
           jobs = laid-numbered (groupAt pay s) (numbered (best-runs f w));
-          rounds = omega (arith, f .few, runs-count (best-runs f w) (f .jobs .ready .sound));
           total = omega (arith, f .total, f .few);
           gain = c .gain;
           moment = fitting-moment f;
           time = c .time;
         })
 
-    pub round-joined : {r : Stage} → worthwhile (bestAt pay s .course) ≡ true → r ≡ joinedBy (groupIn g) s → r ≡ roundFrom pay s
-    unfolding roundFrom
-    round-joined w j = rw (w, roundFrom) (j ∙ ap (λ (x : GroupParts). joinedBy (groupIn x) s) e ∙ ap (λ (x : Group). joinedBy x s) (group-in (groupAt pay s)))
+    group-parts : take (g .count) (g .parts) ≡ groupAt pay s .parts
+    group-parts = ap (λ (x : GroupParts). take (x .count) (x .parts)) e ∙ laid-parts (groupAt pay s)
+
+    -- what the code makes of the group is the stage that the group makes
+    pub round-joined : {state : State} {parts : List Part} {total : ℤ}
+        → state ≡ afterParts (s .state) (take (g .count) (g .parts))
+        → parts ≡ appended (s .parts) (s .count) (take (g .count) (g .parts))
+        → total ≡ s .total +ℤ g .course .gain
+        → _≡_ {A = Stage} (record { state = state; parts = parts; count = s .count + g .count; rounds = s .rounds + 1; total = total; moment = s .moment + g .course .time }) (joinedBy (groupAt pay s) s)
+    unfolding joinedBy laidOut
+    round-joined a p t = λ j. record {
+      state = (a ∙ ap (afterParts (s .state)) group-parts) j;
+      parts = (p ∙ ap (appended (s .parts) (s .count)) group-parts) j;
+      count = s .count + e j .count;
+      rounds = s .rounds + 1;
+      total = (t ∙ ap (λ (x : GroupParts). s .total +ℤ x .course .gain) e) j;
+      moment = s .moment + e j .course .time;
+    }
 
 -- over the lent curves, with the arrays of the round
 module _ (starts : List ℕ) (values slopes : List ℤ) (counts ends : List ℕ) {s : Stage} {l : Links} (f : Fitting (paid starts values slopes counts ends) s) (e : l ≡ laid (s .state)) where
@@ -113,8 +104,10 @@ module _ (starts : List ℕ) (values slopes : List ℤ) (counts ends : List ℕ)
     pub round-best : b ≡ bestAt (paid starts values slopes counts ends) s
     round-best = d ∙ ap (λ (v : View). bestOf byDensity v (s .moment)) round-view
 
-    pub round-last : b .last < 32
-    round-last = rw d (best-below byDensity _ (s .moment))
+    -- the number handed on for the best's last job
+    module _ {last : ℕ} (n : last ≡ b .last) where
+      pub round-last : last < 32
+      round-last = rw (n, d) (best-below byDensity _ (s .moment))
 
-    pub round-group : {g : GroupParts} → g ≡ laidOut (groupOf byDensity (seen starts values slopes counts ends (l .run) (l .rollback) (l .hold) (l .undo) (l .rolling) (l .left) (l .waits)) (s .moment) (b .last)) → g ≡ laidOut (groupAt (paid starts values slopes counts ends) s)
-    round-group h = h ∙ (λ j. laidOut (groupOf byDensity (round-view j) (s .moment) (round-best j .last)))
+      pub round-group : {g : GroupParts} → g ≡ laidOut (groupOf byDensity (seen starts values slopes counts ends (l .run) (l .rollback) (l .hold) (l .undo) (l .rolling) (l .left) (l .waits)) (s .moment) last) → g ≡ laidOut (groupAt (paid starts values slopes counts ends) s)
+      round-group h = h ∙ (λ j. laidOut (groupOf byDensity (round-view j) (s .moment) ((n ∙ ap (λ (x : Best). x .last) round-best) j)))

@@ -1,6 +1,6 @@
 -- THE BRIDGE: where the holders agree with the jobs, the laid arrays give the view of the jobs. Assumes nothing.
 use mathlib.Core.Path.{_≡_, refl, sym, ap, _∙_}
-use mathlib.Core.Bool.{Bool, true, false, cond}
+use mathlib.Core.Bool.{true, false}
 use mathlib.Core.Logic.{inl, inr}
 use mathlib.Core.List.{List, [], _∷_}
 use Prim.Native.Nat.{ℕ, zero, suc, _<_, _≤_}
@@ -13,7 +13,7 @@ use Rattle.laws.specs.Search.{lt-or-le}
 use Rattle.job.specs.declared.Held.{Held}
 use Rattle.job.specs.declared.Job.{Job}
 use Rattle.job.specs.Held.{free}
-use Rattle.job.specs.Job.{isLeft, heldAt, holdOf}
+use Rattle.job.specs.Job.{isLeft, heldAt}
 use Rattle.gus.specs.State.{vacant, jobAt}
 use Rattle.gus.specs.Waits.{nobody, holderFrom, holderOf, waitsFor}
 use Rattle.gus.specs.View.{viewOf}

@@ -1,12 +1,14 @@
 -- The loop that lays out the arrays of a round. Assumes nothing.
-use mathlib.Core.Path.{_≡_, refl, sym, ap, _∙_}
-use mathlib.Core.Bool.{Bool, true, false, cond, _&&_}
+use mathlib.Core.Path.{_≡_, refl, ap, _∙_}
+use mathlib.Core.Bool.{Bool, true, false, cond}
 use mathlib.Core.List.{List}
+use mathlib.Core.Logic.{_⊎_, inl, inr}
 use Prim.Native.Nat.{ℕ, _+_, _<_, _≤_}
 use native.Mathlib.Omega.{arith}
-use borrow.Author.Tests.{ltb-true}
+use borrow.Author.Tests.{ltb-true, lt-ltb, le-ltb}
 use lib.Dec.{ltb}
 use lib.ListN.{length, getD, set}
+use Rattle.laws.specs.Inside.{inside}
 use Rattle.laws.specs.Count.{Counting, count-begin, count-next, count-ended}
 use Rattle.job.specs.declared.Held.{Held}
 use Rattle.job.specs.declared.Job.{Job}
@@ -16,7 +18,6 @@ use Rattle.gus.specs.State.{vacant, jobAt}
 use Rattle.gus.specs.Waits.{nobody}
 use Rattle.planner.specs.declared.State.{State}
 use Rattle.planner.specs.declared.Links.{Links}
-use Rattle.planner.specs.Seen.{inside}
 use Rattle.planner.specs.Laid.{placeOf, holderIn, heldBy, wanted, holderFor, heldFor, layOne, noLinks, laid}
 
 -- the holder, read at the resource's place
@@ -35,26 +36,19 @@ asked holders res h = by (ltb res 32) h
     by true h = refl
     by false h = absurd (omega arith)
 
--- what the holder holds, read at its place
-held-read : (js : List Job) → length js ≡ 32 → (holders : List ℕ) (time : Held → ℕ) → time free ≡ 0 → (res r w k : ℕ) → r ≡ placeOf res → w ≡ holderIn holders res → k ≡ placeOf w →
-    cond (ltb w 32) (time (getD (getD js k noJob .held) r free)) 0 ≡ time (heldBy js w res)
-held-read js s holders time z res r w k p q e = by (ltb w 32) refl e
-  where
-    by : (b : Bool) → ltb w 32 ≡ b → k ≡ cond b w 0 → cond b (time (getD (getD js k noJob .held) r free)) 0 ≡ time (cond b (getD (jobAt js w .held) res free) free)
-    by true f e =
-        let l : w < 32 = ltb-true w 32 f in
-        let same : r ≡ res = p ∙ asked holders res (rw q at l) in
-        rw (e, same, inside js w noJob vacant (omega arith))
-    by false f e = sym z
+-- what the holder holds, read at its place, and nothing where there is no holder
+pub held-read : (js : List Job) → length js ≡ 32 → (holders : List ℕ) (res r w : ℕ) → r ≡ placeOf res → w ≡ holderIn holders res → (held : Held) → ((w < 32) × (held ≡ getD (getD js w noJob .held) r free)) ⊎ ((32 ≤ w) × (held ≡ free)) → held ≡ heldBy js w res
+held-read js s holders res r w p q held (inl (l, e)) =
+    let same : r ≡ res = p ∙ asked holders res (rw q at l) in
+    e ∙ rw (same, inside js w noJob vacant (omega arith), lt-ltb w 32 l)
+held-read js s holders res r w p q held (inr (h, e)) = e ∙ rw (le-ltb w 32 h)
 
 -- what the code reads and finds for job i
-pub record Reading (s : State) (i r w k : ℕ) (left : Bool) (hold undo run rollback : ℕ) : Type 0 where
+pub record Reading (s : State) (i r w : ℕ) (left : Bool) (held : Held) (run rollback : ℕ) : Type 0 where
   pub place : r ≡ placeOf (getD (s .jobs) i noJob .request .resource)
   pub holder : w ≡ cond (ltb (getD (s .jobs) i noJob .request .resource) 32) (getD (s .holders) r 0) nobody
-  pub owner : k ≡ placeOf w
+  pub held-there : ((w < 32) × (held ≡ getD (getD (s .jobs) w noJob .held) r free)) ⊎ ((32 ≤ w) × (held ≡ free))
   pub is-left : left ≡ isLeft (getD (s .jobs) i noJob)
-  pub hold-time : hold ≡ cond (ltb w 32) (getD (getD (s .jobs) k noJob .held) r free .hold) 0
-  pub undo-time : undo ≡ cond (ltb w 32) (getD (getD (s .jobs) k noJob .held) r free .rollback) 0
   pub run-time : run ≡ getD (s .jobs) i noJob .run
   pub rollback-time : rollback ≡ getD (s .jobs) i noJob .rollback
 
@@ -67,7 +61,7 @@ module _ (s : State) where
   pub laying-begin : length (s .jobs) ≡ 32 → length (s .holders) ≡ 32 → Laying s noLinks 0
   laying-begin p q = record { jobs = p; holders = q; counting = count-begin }
 
-  pub laying-next : (l : Links) (i r w k : ℕ) (left : Bool) (hold undo run rollback : ℕ) → Laying s l i → i < 32 → Reading s i r w k left hold undo run rollback → Laying s (record {
+  pub laying-next : (l : Links) (i r w : ℕ) (left : Bool) (held : Held) (hold undo run rollback : ℕ) → Laying s l i → i < 32 → Reading s i r w left held run rollback → hold ≡ held .hold → undo ≡ held .rollback → Laying s (record {
     left = set (l .left) i left;
     waits = set (l .waits) i w;
     hold = set (l .hold) i hold;
@@ -77,20 +71,19 @@ module _ (s : State) where
     rolling = set (l .rolling) i (getD (s .jobs) i noJob .rolling);
   }) (i + 1)
   unfolding layOne
-  laying-next l i r w k left hold undo run rollback g h d =
+  laying-next l i r w left held hold undo run rollback g h d p q =
       let job : getD (s .jobs) i noJob ≡ jobAt (s .jobs) i = inside (s .jobs) i noJob vacant (omega (arith, g .jobs)) in
       let place : r ≡ placeOf (wanted s i) = rw job at (d .place) in
       let holder : w ≡ holderFor s i = (rw job at (d .holder)) ∙ holder-read (s .holders) (g .holders) (wanted s i) r place in
-      let held : (time : Held → ℕ) → time free ≡ 0 → cond (ltb w 32) (time (getD (getD (s .jobs) k noJob .held) r free)) 0 ≡ time (heldFor s i) =
-      λ time z. held-read (s .jobs) (g .jobs) (s .holders) time z (wanted s i) r w k place holder (d .owner) ∙ ap (λ (x : ℕ). time (heldBy (s .jobs) x (wanted s i))) holder in
+      let there : held ≡ heldFor s i = held-read (s .jobs) (g .jobs) (s .holders) (wanted s i) r w place holder held (d .held-there) ∙ ap (λ (x : ℕ). heldBy (s .jobs) x (wanted s i)) holder in
       record {
         jobs = g .jobs;
         holders = g .holders;
         counting = count-next (g .counting) h (λ j. record {
           left = set (l .left) i ((d .is-left ∙ ap isLeft job) j);
           waits = set (l .waits) i (holder j);
-          hold = set (l .hold) i ((d .hold-time ∙ held (λ x. x .hold) refl) j);
-          undo = set (l .undo) i ((d .undo-time ∙ held (λ x. x .rollback) refl) j);
+          hold = set (l .hold) i ((p ∙ ap (λ (x : Held). x .hold) there) j);
+          undo = set (l .undo) i ((q ∙ ap (λ (x : Held). x .rollback) there) j);
           run = set (l .run) i ((d .run-time ∙ ap (λ (x : Job). x .run) job) j);
           rollback = set (l .rollback) i ((d .rollback-time ∙ ap (λ (x : Job). x .rollback) job) j);
           rolling = set (l .rolling) i (ap (λ (x : Job). x .rolling) job j);

@@ -2,12 +2,12 @@ pub mod Seen
 pub mod Table
 pub mod Flatten
 pub mod Flattening
+pub mod Taking
 pub mod Laid
 pub mod Laying
 pub mod Filled
 pub mod LaidView
 pub mod Bounds
-pub mod Inside
 pub mod Circling
 pub mod Offering
 pub mod Listing

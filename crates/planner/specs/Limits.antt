@@ -89,6 +89,3 @@ module _ (way : Way) (v : View) (t : ℕ) where
     pub small-group : (i : ℕ) → Small 32 (groupOf way v t i .course)
     unfolding groupOf
     small-group i = small-more (omega (arith, chain-short (v .waits) i)) (small-grow (chainOf (v .waits) i) 0 start small-start)
-
-    pub small-best : Small 32 (bestOf way v t .course)
-    small-best = best-keeps (λ b. Small 32 (b .course)) small-start (λ i h. small-group i)

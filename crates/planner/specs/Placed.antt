@@ -4,7 +4,7 @@ use mathlib.Core.List.{List, [], _∷_}
 use Prim.Native.Nat.{ℕ, zero, suc, _+_, _-_, _<_}
 use native.Mathlib.Numerals.{add-one}
 use native.Mathlib.Omega.{arith}
-use lib.ListN.{length, getD}
+use lib.ListN.{getD, replicate}
 
 -- n members from place k on
 unfoldable pub placed : List ℕ → ℕ → ℕ → List ℕ
@@ -18,6 +18,14 @@ chainIn members k = placed members (32 - k) k
 -- each place has a job's number
 pub record Below (m : ℕ) (members : List ℕ) : Type 0 where
   pub below : (k : ℕ) → getD members k 0 < m
+
+pub zeros-below : (m n : ℕ) → 0 < m → Below m (replicate n 0)
+zeros-below m n p = record { below = by n }
+  where
+    by : (n k : ℕ) → getD (replicate n 0) k 0 < m
+    by zero k = p
+    by (suc n) zero = p
+    by (suc n) (suc k) = by n k
 
 module _ (members : List ℕ) where
   pub chain-more : (k : ℕ) → k < 32 → chainIn members k ≡ getD members k 0 ∷ chainIn members (k + 1)
@@ -35,11 +43,3 @@ module _ (members : List ℕ) where
 
   pub chain-next : (k : ℕ) → k < 31 → chainIn members (k + 1) ≡ getD members (k + 1) 0 ∷ chainIn members (k + 2)
   chain-next k h = let e : k + 1 + 1 ≡ k + 2 = omega arith in rw e at (chain-more (k + 1) (omega arith))
-
-  pub length-chain : (k : ℕ) → length (chainIn members k) ≡ 32 - k
-  unfolding chainIn placed
-  length-chain k = by (32 - k) k
-    where
-      by : (n j : ℕ) → length (placed members n j) ≡ n
-      by zero j = refl
-      by (suc n) j = ap suc (by n (suc j))

@@ -1,11 +1,9 @@
 -- The view of the jobs that lent arrays give. Assumes nothing.
-use mathlib.Core.Path.{_≡_, refl}
 use mathlib.Core.Bool.{Bool, false}
-use mathlib.Core.List.{List, [], _∷_}
-use Prim.Native.Nat.{ℕ, zero, suc, _<_}
-use native.Mathlib.Nat.{not-suc-le-zero, le-of-suc-le-suc}
+use mathlib.Core.List.{List, []}
+use Prim.Native.Nat.{ℕ}
 use lib.IntN.{ℤ}
-use lib.ListN.{length, getD}
+use lib.ListN.{getD}
 use Rattle.curve.specs.Worth.{worthAt}
 use Rattle.curve.specs.Flat.{curveIn}
 use Rattle.gus.specs.Waits.{nobody}
@@ -34,9 +32,3 @@ seen starts values slopes counts ends run rollback hold undo rolling left waits 
 -- the same for what asks neither who is left nor who waits
 abbrev pub seenTimes : List ℕ → List ℤ → List ℤ → List ℕ → List ℕ → List ℕ → List ℕ → List ℕ → List ℕ → List Bool → View
 seenTimes starts values slopes counts ends run rollback hold undo rolling = seen starts values slopes counts ends run rollback hold undo rolling [] []
-
--- inside an array it does not matter what stands past its end
-pub inside : {A : Type 0} (l : List A) (i : ℕ) (a b : A) → i < length l → getD l i a ≡ getD l i b
-inside [] i a b h = absurd (not-suc-le-zero h)
-inside (x ∷ l) zero a b h = refl
-inside (x ∷ l) (suc i) a b h = inside l i a b (le-of-suc-le-suc h)

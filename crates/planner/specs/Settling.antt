@@ -1,17 +1,17 @@
 -- The victims sent into rollback one after the other. Assumes nothing.
-use mathlib.Core.Path.{_≡_, refl, sym, ap, _∙_}
-use mathlib.Core.List.{List, [], _∷_}
+use mathlib.Core.Path.{_≡_, refl, ap, _∙_}
+use mathlib.Core.List.{List, _∷_}
 use Prim.Native.Nat.{ℕ, suc, _+_, _<_, _≤_}
 use native.Mathlib.Numerals.{add-one}
 use native.Mathlib.Omega.{arith}
 use lib.ListN.{length, getD, set, take, drop, length-set}
 use lib.Seq.{drop-cons, drop-length, length-take-le, getD-take}
+use Rattle.laws.specs.Inside.{inside}
 use Rattle.job.specs.declared.Job.{Job}
 use Rattle.job.specs.Job.{noJob}
 use Rattle.gus.specs.State.{vacant}
 use Rattle.gus.specs.Victims.{sentBack, settled}
 use Rattle.planner.specs.declared.Victims.{Victims}
-use Rattle.planner.specs.Inside.{inside}
 
 -- the victims that an array and a count say
 abbrev pub victimsIn : Victims → List ℕ

@@ -1,31 +1,22 @@
 -- One round of the code's loop, as a step from stage to stage (VI.1 at 01's way of choosing). Assumes nothing.
-use mathlib.Core.Bool.{true, false}
 use mathlib.Core.List.{[]}
 use Prim.Native.Nat.{ℕ, _+_}
 use lib.IntN.{pos, _+ℤ_}
-use lib.ListN.{length, take}
+use lib.ListN.{length}
 use Rattle.laws.specs.Fill.{padded}
 use Rattle.gus.specs.declared.Best.{Best}
 use Rattle.gus.specs.View.{Pay, viewOf}
 use Rattle.gus.specs.Choice.{byDensity}
 use Rattle.gus.specs.Group.{Group, groupOf}
-use Rattle.gus.specs.Round.{bestOf, worthwhile}
+use Rattle.gus.specs.Round.{bestOf}
 use Rattle.planner.specs.declared.State.{State}
-use Rattle.planner.specs.declared.GroupParts.{GroupParts}
 use Rattle.planner.specs.declared.Stage.{Stage}
 use Rattle.planner.specs.LaidOut.{emptyPart}
 use Rattle.planner.specs.Applied.{afterParts}
 use Rattle.planner.specs.Appended.{appended}
 
 unfoldable pub opening : State → ℕ → Stage
-opening s now = record { state = s; parts = padded 96 emptyPart []; count = 0; rounds = 0; total = pos 0; moment = now; going = true }
-
-abbrev pub ended : Stage → Stage
-ended s = record { state = s .state; parts = s .parts; count = s .count; rounds = s .rounds; total = s .total; moment = s .moment; going = false }
-
--- the group that an array and a count say
-abbrev pub groupIn : GroupParts → Group
-groupIn g = record { parts = take (g .count) (g .parts); course = g .course }
+opening s now = record { state = s; parts = padded 96 emptyPart []; count = 0; rounds = 0; total = pos 0; moment = now }
 
 -- a group is appended, a round is counted, and "an appended group's time moves it on"
 unfoldable pub joinedBy : Group → Stage → Stage
@@ -36,7 +27,6 @@ joinedBy g s = record {
   rounds = s .rounds + 1;
   total = s .total +ℤ g .course .gain;
   moment = s .moment + g .course .time;
-  going = true;
 }
 
 -- the best of the jobs left, and its group
@@ -45,6 +35,3 @@ bestAt pay s = bestOf byDensity (viewOf pay (s .state .jobs)) (s .moment)
 
 abbrev pub groupAt : Pay → Stage → Group
 groupAt pay s = groupOf byDensity (viewOf pay (s .state .jobs)) (s .moment) (bestAt pay s .last)
-
-unfoldable pub roundFrom : Pay → Stage → Stage
-roundFrom pay s = elim (worthwhile (bestAt pay s .course)) [ true ↦ joinedBy (groupAt pay s) s | false ↦ ended s ]

@@ -1,6 +1,6 @@
 -- THE ROUNDS AS A LOOP: the plan so far, joined with the rounds left from here, is the whole plan. Assumes nothing.
-use mathlib.Core.Path.{_≡_, refl, sym, ap, _∙_}
-use mathlib.Core.Bool.{Bool, true, false, true≢false, false≢true}
+use mathlib.Core.Path.{_≡_, refl, sym, _∙_}
+use mathlib.Core.Bool.{true, false}
 use Prim.Native.Nat.{ℕ, suc, _+_, _-_, _<_, _≤_}
 use native.Mathlib.Omega.{arith}
 use lib.IntN.{_+ℤ_, +ℤ-idl, +ℤ-idr, +ℤ-assoc}
@@ -14,7 +14,7 @@ use Rattle.planner.specs.declared.State.{State}
 use Rattle.planner.specs.declared.Stage.{Stage}
 use Rattle.planner.specs.LaidOut.{emptyPart}
 use Rattle.planner.specs.Appending.{appended-pushing}
-use Rattle.planner.specs.Stage.{opening, ended, joinedBy, bestAt, groupAt, roundFrom}
+use Rattle.planner.specs.Stage.{opening, joinedBy, bestAt, groupAt}
 use Rattle.planner.specs.Fitting.{Sane, Fitting, fitting-begin, fitting-next, best-runs}
 
 -- a plan laid out in a stage
@@ -70,14 +70,16 @@ module _ {pay : Pay} {whole : Plan} where
     unfolding rounds joinedBy
     rest-join w = rw (w, rounds)
 
-    stopped : worthwhile (bestAt pay s .course) ≡ false → Rounded whole s
-    stopped w = made (rw (rest-stop w) at (y .making))
+    -- the end
+    pub staged-stopped : worthwhile (bestAt pay s .course) ≡ false → Rounded whole s
+    staged-stopped w = made (rw (rest-stop w) at (y .making))
 
-    goes : worthwhile (bestAt pay s .course) ≡ true → Staged pay whole n (joinedBy (groupAt pay s) s)
+    -- one round on
+    pub staged-next : {r : Stage} → worthwhile (bestAt pay s .course) ≡ true → r ≡ joinedBy (groupAt pay s) s → Staged pay whole n r
     unfolding joinedBy
-    goes w =
+    staged-next w e =
         let m : Making whole s (joined (groupAt pay s) (restOf pay n (joinedBy (groupAt pay s) s))) = rw (rest-join w) at (y .making) in
-        record { fits = fitting-next (y .fits) w; making = onward m }
+        rw e (record { fits = fitting-next (y .fits) w; making = onward m })
       where
         onward : {rest : Plan} → Making whole s (joined (groupAt pay s) rest) → Making whole (joinedBy (groupAt pay s) s) rest
         onward {rest} m = record {
@@ -86,23 +88,6 @@ module _ {pay : Pay} {whole : Plan} where
           total = +ℤ-assoc (s .total) (groupAt pay s .course .gain) (rest .total) ∙ m .total;
           end = m .end;
         }
-
-    -- one round on, or the end
-    pub staged-next : {r : Stage} → r ≡ roundFrom pay s → r .going ≡ true → Staged pay whole n r
-    unfolding roundFrom
-    staged-next {r} e g = by (worthwhile (bestAt pay s .course)) refl e
-      where
-        by : (b : Bool) → worthwhile (bestAt pay s .course) ≡ b → r ≡ elim b as (λ _. Stage) [ true ↦ joinedBy (groupAt pay s) s | false ↦ ended s ] → Staged pay whole n r
-        by true w q = rw q (goes w)
-        by false w q = absurd (true≢false (sym g ∙ ap (λ (x : Stage). x .going) q))
-
-    pub staged-stopped : {r : Stage} → r ≡ roundFrom pay s → r .going ≡ false → Rounded whole r
-    unfolding roundFrom joinedBy
-    staged-stopped {r} e g = by (worthwhile (bestAt pay s .course)) refl e
-      where
-        by : (b : Bool) → worthwhile (bestAt pay s .course) ≡ b → r ≡ elim b as (λ _. Stage) [ true ↦ joinedBy (groupAt pay s) s | false ↦ ended s ] → Rounded whole r
-        by true w q = absurd (false≢true (sym g ∙ ap (λ (x : Stage). x .going) q))
-        by false w q = let z = stopped w in rw q (record { parts = z .parts; count = z .count; rounds = z .rounds; total = z .total; end = z .end })
 
 -- The same by the number of rounds made: i of 32.
 pub record Rounding (pay : Pay) (whole : Plan) (s : Stage) (i : ℕ) : Type 0 where
@@ -116,11 +101,11 @@ module _ {pay : Pay} {whole : Plan} {s : Stage} {i : ℕ} (y : Rounding pay whol
   one-more : i < 32 → Staged pay whole (suc (32 - (i + 1))) s
   one-more h = let e : suc (32 - (i + 1)) ≡ 32 - i = omega arith in rw e (y .staged)
 
-  pub rounding-next : {r : Stage} → i < 32 → r ≡ roundFrom pay s → r .going ≡ true → Rounding pay whole r (i + 1)
-  rounding-next h e g = record { within = omega arith; staged = staged-next (one-more h) e g }
+  pub rounding-next : {r : Stage} → i < 32 → worthwhile (bestAt pay s .course) ≡ true → r ≡ joinedBy (groupAt pay s) s → Rounding pay whole r (i + 1)
+  rounding-next h w e = record { within = omega arith; staged = staged-next (one-more h) w e }
 
-  pub rounding-stopped : {r : Stage} → i < 32 → r ≡ roundFrom pay s → r .going ≡ false → Rounded whole r
-  rounding-stopped h e g = staged-stopped (one-more h) e g
+  pub rounding-stopped : i < 32 → worthwhile (bestAt pay s .course) ≡ false → Rounded whole s
+  rounding-stopped h w = staged-stopped (one-more h) w
 
   pub rounding-ended : 32 ≤ i → Rounded whole s
   rounding-ended h = let e : 32 - i ≡ 0 = omega arith in staged-ended (rw e at (y .staged))

@@ -10,20 +10,9 @@ use lib.Seq.{take-all, take-suc-set}
 use Rattle.laws.specs.Count.{upto}
 
 module _ {A : Type 0} where
-  -- a place within a list holds the same whatever is taken past the list's end
-  pub same-within : (l : List A) (i : ℕ) (d e : A) → i < length l → getD l i d ≡ getD l i e
-  same-within [] i d e h = absurd (not-suc-le-zero h)
-  same-within (x ∷ l) zero d e h = refl
-  same-within (x ∷ l) (suc i) d e h = same-within l i d e (le-of-suc-le-suc h)
-
   unfoldable pub table : (ℕ → A) → ℕ → List A
   table f zero = []
   table f (suc n) = f 0 ∷ table (λ k. f (suc k)) n
-
-  pub length-table : (f : ℕ → A) (n : ℕ) → length (table f n) ≡ n
-  unfolding table
-  length-table f zero = refl
-  length-table f (suc n) = ap suc (length-table (λ k. f (suc k)) n)
 
   pub getD-table : (f : ℕ → A) (n i : ℕ) (d : A) → i < n → getD (table f n) i d ≡ f i
   unfolding table

@@ -5,15 +5,10 @@ ghost use lib.ListN.{take};
 ghost use Rattle.job.specs.Job.{worked};
 ghost use Rattle.planner.specs.Applied.{holderAfter, holdersAfter, afterParts, Numbered};
 use crate::State;
+use crate::wide;
 use gus::Part;
 use job::Held;
 use job::Job;
-
-fn wide(n: u8) -> usize
-    ensures { λ r. ⌜ r ≡ n ⌝ }
-{
-    n as usize
-}
 
 fn worked_job(j: Job, rolling: bool, time: u16) -> Job
     ensures { λ r. ⌜ r ≡ worked rolling time j ⌝ }

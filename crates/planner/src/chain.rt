@@ -1,30 +1,27 @@
 // The chain of a job (VI.2).
+ghost use mathlib.Core.Path.{_≡_};
 ghost use Prim.Native.Nat.{_<_};
+ghost use lib.ListN.{length};
+ghost use Rattle.planner.specs.Placed.{Below};
 ghost use Rattle.planner.specs.Following.{Followed};
 use crate::wide;
 
-// Members from .. 32, farthest holder first.
-pub struct Chain {
-    pub members: [u8; 32],
-    pub from: usize,
-}
-
-pub(crate) fn follow(waits: &[u8; 32], last: usize) -> Chain
-    requires { ⌜ last < 32 ⌝ }
-    ensures { λ r. ⌜ Followed (now (waits .entry)) last (r .members) (r .from) ⌝ }
+// Members r .. 32, farthest holder first. The array is the caller's: a chain that came back by value would be copied for each job.
+pub(crate) fn follow(waits: &[u8; 32], last: usize, members: &mut [u8; 32]) -> usize
+    requires { ⌜ (last < 32) × ((length (now members) ≡ 32) × Below 32 (now members)) ⌝ }
+    ensures { λ r. ⌜ Followed (now (waits .entry)) last (now (members .exit)) r ⌝ }
 {
     let all: &[u8] = waits;
-    let mut members = [0u8; 32];
     members[31] = last as u8;
     let mut from: usize = 31;
     let mut job = wide(all[last]);
     while 0 < from {
         if 32 <= job {
-            return Chain { members, from };
+            return from;
         }
         from -= 1;
         members[from] = job as u8;
         job = wide(all[job]);
     }
-    Chain { members, from }
+    from
 }

@@ -1,18 +1,16 @@
 // The curves of 32 jobs laid into flat arrays once, so that a plan lends them by reference: job i's pieces from place 8 * i on.
 ghost use mathlib.Core.Path.{_≡_};
 ghost use Prim.Native.Nat.{_+_, _≤_, min};
-ghost use Rattle.planner.specs.Flatten.{Flattened};
-ghost use Rattle.planner.specs.Flattening.{Placed, Sized};
-use book::Record;
+ghost use Rattle.planner.specs.Flattening.{Placed};
 use curve::Curve;
 
-fn count_of(n: usize) -> u8
+pub(crate) fn count_of(n: usize) -> u8
     ensures { λ r. ⌜ r ≡ min n 8 ⌝ }
 {
     if n < 8 { n as u8 } else { 8 }
 }
 
-fn lay_pieces(
+pub(crate) fn lay_pieces(
     c: Curve,
     from: usize,
     starts: &mut [u32; 256],
@@ -33,27 +31,5 @@ fn lay_pieces(
         values[place] = value;
         slopes[place] = slope;
         k += 1;
-    }
-}
-
-pub(crate) fn lay_curves(
-    records: [Record; 32],
-    starts: &mut [u32; 256],
-    values: &mut [i32; 256],
-    slopes: &mut [i16; 256],
-    counts: &mut [u8; 32],
-    ends: &mut [u32; 32],
-)
-    requires { ⌜ Sized (now starts) (now values) (now slopes) (now counts) (now ends) ⌝ }
-    ensures { λ r. ⌜ Flattened records (now (starts .exit)) (now (values .exit)) (now (slopes .exit)) (now (counts .exit)) (now (ends .exit)) ⌝ }
-{
-    let mut i: usize = 0;
-    while i < 32 {
-        let x = records[i];
-        let c = x.curve;
-        counts[i] = count_of(c.count);
-        ends[i] = c.end;
-        lay_pieces(c, 8 * i, starts, values, slopes);
-        i += 1;
     }
 }

@@ -192,8 +192,8 @@ pub(crate) fn group<'a>(
     requires { ⌜ (last < 32) × Planned t ⌝ }
     ensures { λ r. ⌜ ((left : List Bool) → r ≡ laidOut (groupOf byDensity (seen (now (starts .entry)) (now (values .entry)) (now (slopes .entry)) (now (counts .entry)) (now (ends .entry)) (now (run .entry)) (now (rollback .entry)) (now (hold .entry)) (now (undo .entry)) (now (rolling .entry)) left (now (waits .entry))) t last)) ⌝ }
 {
-    let chain = follow(waits, last);
-    let from = chain.from;
+    let mut members = [0u8; 32];
+    let from = follow(waits, last, &mut members);
     grow(
         starts,
         values,
@@ -205,7 +205,7 @@ pub(crate) fn group<'a>(
         hold,
         undo,
         rolling,
-        &chain.members,
+        &members,
         from,
         t,
     )

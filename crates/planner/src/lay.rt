@@ -8,6 +8,7 @@ ghost use Rattle.planner.specs.Laid.{placeOf, laid};
 use crate::Links;
 use crate::State;
 use crate::wide;
+use job::Held;
 
 fn long(n: u16) -> u32
     ensures { λ r. ⌜ r ≡ n ⌝ }
@@ -35,12 +36,6 @@ fn holder_of(resource: u8, holder: u8) -> u8
     if resource < 32 { holder } else { 255 }
 }
 
-fn time_of(holder: u8, time: u16) -> u32
-    ensures { λ r. ⌜ r ≡ cond (ltb holder 32) time 0 ⌝ }
-{
-    if holder < 32 { time as u32 } else { 0 }
-}
-
 pub(crate) fn lay(s: State) -> Links
     ensures { λ r. ⌜ r ≡ laid s ⌝ }
 {
@@ -59,13 +54,20 @@ pub(crate) fn lay(s: State) -> Links
         let request = job.request;
         let r = place(request.resource);
         let holder = holder_of(request.resource, s.holders[r]);
-        let k = place(holder);
-        let owner = s.jobs[k];
-        let held = owner.held[r];
+        let mut held = Held {
+            hold: 0,
+            rollback: 0,
+        };
+        // Most jobs wait for nobody, and an owner's list is 128 bytes to copy.
+        if holder < 32 {
+            let k = wide(holder);
+            let owner = s.jobs[k];
+            held = owner.held[r];
+        }
         l.left[i] = is_left(job.run, job.rollback);
         l.waits[i] = holder;
-        l.hold[i] = time_of(holder, held.hold);
-        l.undo[i] = time_of(holder, held.rollback);
+        l.hold[i] = long(held.hold);
+        l.undo[i] = long(held.rollback);
         l.run[i] = long(job.run);
         l.rollback[i] = long(job.rollback);
         l.rolling[i] = job.rolling;

@@ -52,7 +52,7 @@ pub struct GroupParts {
     pub course: Course,
 }
 
-// What one round hands to the next: the jobs, the plan so far (parts 0 .. count), the planned moment, and whether it goes on.
+// The jobs after some rounds, the plan so far (parts 0 .. count), and the planned moment.
 pub struct Stage {
     pub state: State,
     pub parts: [Part; 96],
@@ -60,7 +60,6 @@ pub struct Stage {
     pub rounds: usize,
     pub total: i32,
     pub moment: u32,
-    pub going: bool,
 }
 
 // What is taken from a book: its refusal, now, the jobs and holders, and the curves in flat arrays.

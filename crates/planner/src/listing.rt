@@ -30,7 +30,7 @@ fn note(mut v: Victims, b: Best, low: u8) -> Victims
     ensures { λ r. ⌜ r ≡ noted v b low ⌝ }
 {
     let place = v.count;
-    v.list[place] = b.last as u8;
+    v.list[place] = b.last;
     v.count = place + 1;
     v.knot = knot_after(v.knot, b.some, low);
     v

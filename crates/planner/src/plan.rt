@@ -9,12 +9,14 @@ use crate::Planned;
 use crate::Stage;
 use crate::State;
 use crate::Victims;
-use crate::flat::lay_curves;
+use crate::flat::count_of;
+use crate::flat::lay_pieces;
 use crate::lay::lay;
 use crate::listing::victims;
 use crate::rounds::rounds;
 use crate::settle::settle;
-use crate::start::jobs_of;
+use crate::start::job_of;
+use crate::start::no_job;
 use gus::Part;
 
 const KNOT: u8 = 10;
@@ -40,27 +42,29 @@ fn refused_plan(number: u8, place: usize) -> Planned
     }
 }
 
-// What the plan takes from a book, so that the book is gone before the rounds.
+// What the plan takes from a book, so that the book is gone before the rounds. The records are read where they stand: they are 10 KB.
 fn open_book(bytes: &[u8]) -> Opened
     ensures { λ r. ⌜ Taken (bookOf (now (bytes .entry))) r ⌝ }
 {
     let b = book::reader::read_book(bytes);
-    let records = b.records;
-    let holders = b.holders;
+    let none = no_job();
+    let mut jobs = [none; 32];
     let mut starts = [0u32; 256];
     let mut values = [0i32; 256];
     let mut slopes = [0i16; 256];
     let mut counts = [0u8; 32];
     let mut ends = [0u32; 32];
-    lay_curves(
-        records,
-        &mut starts,
-        &mut values,
-        &mut slopes,
-        &mut counts,
-        &mut ends,
-    );
-    let jobs = jobs_of(records);
+    let mut i: usize = 0;
+    while i < 32 {
+        let x = b.records[i];
+        let c = x.curve;
+        jobs[i] = job_of(x);
+        counts[i] = count_of(c.count);
+        ends[i] = c.end;
+        lay_pieces(c, 8 * i, &mut starts, &mut values, &mut slopes);
+        i += 1;
+    }
+    let holders = b.holders;
     let state = State { jobs, holders };
     Opened {
         number: b.number,

@@ -96,7 +96,7 @@ fn score<'a>(
 }
 
 // A tie stays with the lower number.
-fn better(job: usize, c: Course, b: Best) -> Best
+fn better(job: u8, c: Course, b: Best) -> Best
     ensures { λ r. ⌜ r ≡ better job c b ⌝ }
 {
     let best = b.course;
@@ -140,8 +140,8 @@ fn consider<'a>(
     ensures { λ r. ⌜ r ≡ consider byDensity (seen (now (starts .entry)) (now (values .entry)) (now (slopes .entry)) (now (counts .entry)) (now (ends .entry)) (now (run .entry)) (now (rollback .entry)) (now (hold .entry)) (now (undo .entry)) (now (rolling .entry)) (now (left .entry)) (now (waits .entry))) t job b ⌝ }
 {
     if left[job] {
-        let chain = follow(waits, job);
-        let from = chain.from;
+        let mut members = [0u8; 32];
+        let from = follow(waits, job, &mut members);
         let c = score(
             starts,
             values,
@@ -153,11 +153,11 @@ fn consider<'a>(
             hold,
             undo,
             rolling,
-            &chain.members,
+            &members,
             from,
             t,
         );
-        return better(job, c, b);
+        return better(job as u8, c, b);
     }
     b
 }

@@ -1,6 +1,5 @@
 // From the book's records, in book order, to the planner's jobs, each with what it holds by resource.
 ghost use mathlib.Core.Path.{_≡_};
-ghost use mathlib.Core.List.{map};
 ghost use Prim.Native.Nat.{min};
 ghost use Rattle.gus.specs.State.{vacant};
 ghost use Rattle.opening.specs.Start.{withEntry, jobFrom};
@@ -30,7 +29,7 @@ fn with_entry(mut held: [Held; 32], e: Entry) -> [Held; 32]
     held
 }
 
-fn job_of(x: Record) -> Job
+pub(crate) fn job_of(x: Record) -> Job
     ensures { λ r. ⌜ r ≡ jobFrom x ⌝ }
 {
     let free = Held {
@@ -56,7 +55,7 @@ fn job_of(x: Record) -> Job
     }
 }
 
-fn no_job() -> Job
+pub(crate) fn no_job() -> Job
     ensures { λ r. ⌜ r ≡ vacant ⌝ }
 {
     let free = Held {
@@ -75,18 +74,4 @@ fn no_job() -> Job
         request,
         held: [free; 32],
     }
-}
-
-pub(crate) fn jobs_of(records: [Record; 32]) -> [Job; 32]
-    ensures { λ r. ⌜ r ≡ map jobFrom records ⌝ }
-{
-    let none = no_job();
-    let mut jobs = [none; 32];
-    let mut i: usize = 0;
-    while i < 32 {
-        let x = records[i];
-        jobs[i] = job_of(x);
-        i += 1;
-    }
-    jobs
 }

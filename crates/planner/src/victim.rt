@@ -39,7 +39,7 @@ fn loss_of<'a>(
 }
 
 // A tie stays with the lower number.
-fn lesser(job: usize, c: Course, b: Best) -> Best
+fn lesser(job: u8, c: Course, b: Best) -> Best
     ensures { λ r. ⌜ r ≡ lesser job c b ⌝ }
 {
     let new = Best {
@@ -94,7 +94,7 @@ fn offer<'a>(
             job,
             t,
         );
-        return lesser(job, c, b);
+        return lesser(job as u8, c, b);
     }
     b
 }

@@ -1,41 +1,92 @@
--- `book::reader::read_book` meets its contract. Assumes nothing.
+-- `book::reader::read_book` meets its contract. The invariant: the locals together are the state of the definition after i turns of `recordNext`. Assumes nothing.
+use Prim.Native.Nat.{_-_}
 use borrow.Author.Tests.{lt-ltb, le-ltb}
 use borrow.Author.Needs.{needs}
-use Rattle.book.specs.Format.{acceptedBook, bookOf}
+use Rattle.laws.specs.Count.{Counting, count-begin, count-next, count-ended}
+use Rattle.book.specs.Format.{recordNext, noRecords, recordsRead, acceptedBook, refusedBook, bookOf}
 use Rattle.book.proofs.reader.read_book.Statement.{statement}
 use Rattle.book.proofs.reader.read_book.Tie as tie
 
-header-requires : tie.Need-header-requires
+abbrev Inv-loop : tie.InvT-loop
+Inv-loop s h none reading₀ records₀ holders₀ spans₀ i₀ reading records holders spans i =
+    Counting (recordNext s (h .resources)) (h .jobs)
+    (record { reading = reading₀; records = records₀; holders = holders₀; spans = spans₀ })
+    (record { reading = reading; records = records; holders = holders; spans = spans })
+    i
+
+abbrev μ-loop : tie.MeasureT-loop
+μ-loop s h none reading₀ records₀ holders₀ spans₀ i₀ reading records holders spans i = h .jobs - i
+
+header-requires : tie.Need-header-requires Inv-loop μ-loop
 header-requires c κs = search needs
 
-records-read-requires : tie.Need-records-read-requires
-records-read-requires c κs = search needs
+no-record-requires : tie.Need-no-record-requires Inv-loop μ-loop
+no-record-requires c κs = search needs
 
-tail-requires : tie.Need-tail-requires
+loop-holds : tie.Need-loop-holds Inv-loop μ-loop
+loop-holds c = count-begin
+
+cast-record-read : tie.Need-cast-record-read Inv-loop μ-loop
+cast-record-read c = search needs
+
+record-read-requires : tie.Need-record-read-requires Inv-loop μ-loop
+record-read-requires c κs = search needs
+
+mul-records : tie.Need-mul-records Inv-loop μ-loop
+mul-records c = search needs
+
+array-set-from-records : tie.Need-array-set-from-records Inv-loop μ-loop
+array-set-from-records c = search needs
+
+mul-spans : tie.Need-mul-spans Inv-loop μ-loop
+mul-spans c = search needs
+
+array-set-from-spans : tie.Need-array-set-from-spans Inv-loop μ-loop
+array-set-from-spans c = search needs
+
+add-i : tie.Need-add-i Inv-loop μ-loop
+add-i c = search needs
+
+loop-less : tie.Need-loop-less Inv-loop μ-loop
+loop-less c = search needs
+
+loop-again : tie.Need-loop-again Inv-loop μ-loop
+unfolding recordNext
+loop-again c = count-next (c .before .before .before .before .before .before .loop .inv) (c .before .before .before .before .if1 .taken) (rw (← c .before .before .before .record-read .ensures))
+
+tail-requires : tie.Need-tail-requires Inv-loop μ-loop
 tail-requires c κs = search needs
 
-refused-book-requires : tie.Need-refused-book-requires
-refused-book-requires c κs = search needs
+returns : tie.Need-returns Inv-loop μ-loop
+unfolding bookOf refusedBook recordsRead noRecords
+returns c = rw (← c .before .before .before .before .before .before .before .before .header .ensures .is, ← rw (c .before .before .before .before .before .before .before .no-record .ensures) at (count-ended (c .before .before .before .before .before .loop .inv) (c .before .before .before .if1 .left)), ← c .before .before .tail .ensures, lt-ltb _ _ (c .if2 .taken), c .before .before .before .before .before .before .before .no-record .ensures)
 
-returns : tie.Need-returns
-unfolding bookOf
-returns c = rw (← c .before .before .before .before .before .before .before .header .ensures .is, ← c .before .before .before .before .before .records-read .ensures, ← c .before .before .before .tail .ensures, lt-ltb _ _ (c .before .if1 .taken)) (c .refused-book .ensures)
+cast-now : tie.Need-cast-now Inv-loop μ-loop
+cast-now c = search needs
 
-cast-t11 : tie.Need-cast-t11
-cast-t11 c = search needs
-
-returns-2 : tie.Need-returns-2
-unfolding bookOf acceptedBook
-returns-2 c = rw (← c .before .before .before .before .before .before .before .before .before .before .header .ensures .is, ← c .before .before .before .before .before .before .before .before .records-read .ensures, ← c .before .before .before .before .before .before .tail .ensures, le-ltb _ _ (c .before .before .before .before .if1 .left))
+returns-2 : tie.Need-returns-2 Inv-loop μ-loop
+unfolding bookOf acceptedBook recordsRead noRecords
+returns-2 c = rw (← c .before .before .before .before .before .before .before .before .before .header .ensures .is, ← rw (c .before .before .before .before .before .before .before .before .no-record .ensures) at (count-ended (c .before .before .before .before .before .before .loop .inv) (c .before .before .before .before .if1 .left)), ← c .before .before .before .tail .ensures, le-ltb _ _ (c .before .if2 .left))
 
 pub read-book-spec : {M : Type 1} → statement M
 read-book-spec =
     tie.close
     (tie.spec
+    Inv-loop
+    μ-loop
     header-requires
-    records-read-requires
+    no-record-requires
+    loop-holds
+    cast-record-read
+    record-read-requires
+    mul-records
+    array-set-from-records
+    mul-spans
+    array-set-from-spans
+    add-i
+    loop-less
+    loop-again
     tail-requires
-    refused-book-requires
     returns
-    cast-t11
+    cast-now
     returns-2)

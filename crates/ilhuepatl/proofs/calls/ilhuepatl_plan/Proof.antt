@@ -1,4 +1,4 @@
-use mathlib.Core.Path.{_≡_, ap, _∙_}
+use mathlib.Core.Path.{ap, _∙_}
 use Rattle.ilhuepatl.specs.Calls.{Outcome, word}
 use borrow.Author.Needs.{needs}
 use Rattle.ilhuepatl.proofs.calls.ilhuepatl_plan.Statement.{statement}

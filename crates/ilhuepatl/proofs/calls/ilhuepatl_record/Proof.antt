@@ -1,8 +1,4 @@
 use Rattle.ilhuepatl.specs.Outcomes.{word-refused, word-found}
-use mathlib.Core.Path.{_≡_, refl, ap, sym, _∙_}
-use borrow.Author.Tests.{lt-ltb, le-ltb}
-use Rattle.book.specs.declared.question.Found.{Found}
-use Rattle.ilhuepatl.specs.Calls.{word, recordWord}
 use borrow.Author.Needs.{needs}
 use Rattle.ilhuepatl.proofs.calls.ilhuepatl_record.Statement.{statement}
 use Rattle.ilhuepatl.proofs.calls.ilhuepatl_record.Tie as tie

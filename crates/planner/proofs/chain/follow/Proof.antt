@@ -2,21 +2,20 @@
 use native.Mathlib.Omega.{arith}
 use Rattle.planner.specs.Following.{Following, following-begin, following-next, following-stopped, following-ended}
 use borrow.Author.Needs.{needs}
-use Prim.Native.Nat.{_-_}
 use Rattle.planner.proofs.chain.follow.Statement.{statement}
 use Rattle.planner.proofs.chain.follow.Tie as tie
 
 abbrev Inv-loop : tie.InvT-loop
-Inv-loop waits last all members₀ from₀ job₀ members from job = Following waits last members from job
+Inv-loop waits last members₀ all from₀ job₀ members from job = Following waits last members from job
 
 abbrev μ-loop : tie.MeasureT-loop
-μ-loop waits last all members₀ from₀ job₀ members from job = from
+μ-loop waits last members₀ all from₀ job₀ members from job = from
 
 cast-members : tie.Need-cast-members Inv-loop μ-loop
 cast-members c = search needs
 
-array-write-members : tie.Need-array-write-members Inv-loop μ-loop
-array-write-members c = search needs
+element-write-members : tie.Need-element-write-members Inv-loop μ-loop
+element-write-members c = search needs
 
 shared-slice-read-wide : tie.Need-shared-slice-read-wide Inv-loop μ-loop
 shared-slice-read-wide c = omega (arith, c .before .all .given .0)
@@ -25,7 +24,9 @@ wide-requires : tie.Need-wide-requires Inv-loop μ-loop
 wide-requires c κs = search needs
 
 loop-holds : tie.Need-loop-holds Inv-loop μ-loop
-loop-holds c = following-begin _ _ _ (c .before .before .all .given .0) (c .before .before .before .pre) (c .wide .ensures)
+loop-holds c =
+    let p = c .before .before .before .pre in
+    following-begin _ _ _ _ (c .before .before .all .given .0) (p .1 .0) (p .1 .1) (p .0) (c .wide .ensures)
 
 returns : tie.Need-returns Inv-loop μ-loop
 returns c = following-stopped _ _ _ _ (c .before .before .loop .job) (c .before .before .loop .inv) (c .if1 .taken)
@@ -36,8 +37,8 @@ sub-from c = search needs
 cast-members-2 : tie.Need-cast-members-2 Inv-loop μ-loop
 cast-members-2 c = search needs
 
-array-write-members-2 : tie.Need-array-write-members-2 Inv-loop μ-loop
-array-write-members-2 c = search needs
+element-write-members-2 : tie.Need-element-write-members-2 Inv-loop μ-loop
+element-write-members-2 c = search needs
 
 shared-slice-read-wide-2 : tie.Need-shared-slice-read-wide-2 Inv-loop μ-loop
 shared-slice-read-wide-2 c = omega (arith, c .before .before .before .loop .inv .size)
@@ -61,14 +62,14 @@ follow-spec =
     Inv-loop
     μ-loop
     cast-members
-    array-write-members
+    element-write-members
     shared-slice-read-wide
     wide-requires
     loop-holds
     returns
     sub-from
     cast-members-2
-    array-write-members-2
+    element-write-members-2
     shared-slice-read-wide-2
     wide-requires-2
     loop-less

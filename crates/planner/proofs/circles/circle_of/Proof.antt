@@ -3,7 +3,7 @@ use native.Mathlib.Omega.{arith}
 use borrow.Author.Needs.{needs}
 use Rattle.gus.specs.Waits.{nobody}
 use Rattle.planner.specs.Seen.{waiting}
-use Rattle.planner.specs.Inside.{inside}
+use Rattle.laws.specs.Inside.{inside}
 use Rattle.planner.specs.Circling.{Circling, circling-begin, circling-next, circling-met, circling-left, circling-spent}
 use Rattle.planner.proofs.circles.circle_of.Statement.{statement}
 use Rattle.planner.proofs.circles.circle_of.Tie as tie

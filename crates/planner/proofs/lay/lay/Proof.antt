@@ -1,10 +1,13 @@
 -- `planner::lay::lay` meets its contract.
-use mathlib.Core.Path.{_≡_, sym, _∙_}
-use lib.ListN.{length, length-map}
+use mathlib.Core.Path.{_≡_, sym, ap, _∙_}
+use mathlib.Core.Logic.{inl, inr, ⊎-elim}
+use Prim.Native.Nat.{ℕ, _-_}
+use borrow.Author.Needs.{needs}
+use lib.ListN.{length, getD, length-map}
+use Rattle.job.specs.Held.{free}
+use Rattle.job.specs.Job.{noJob}
 use Rattle.planner.specs.Laid.{noLinks}
 use Rattle.planner.specs.Laying.{Laying, laying-begin, laying-next, laying-ended}
-use borrow.Author.Needs.{needs}
-use Prim.Native.Nat.{_-_}
 use Rattle.planner.proofs.lay.lay.Statement.{statement}
 use Rattle.planner.proofs.lay.lay.Tie as tie
 
@@ -39,8 +42,8 @@ element-copy-out-holder-of c = search needs
 holder-of-requires : tie.Need-holder-of-requires Inv-loop μ-loop
 holder-of-requires c κs = search needs
 
-place-requires-2 : tie.Need-place-requires-2 Inv-loop μ-loop
-place-requires-2 c κs = search needs
+wide-requires : tie.Need-wide-requires Inv-loop μ-loop
+wide-requires c κs = search needs
 
 mul-owner : tie.Need-mul-owner Inv-loop μ-loop
 mul-owner c = search needs
@@ -63,8 +66,8 @@ element-write-l c = search needs
 element-write-l-2 : tie.Need-element-write-l-2 Inv-loop μ-loop
 element-write-l-2 c = search needs
 
-time-of-requires : tie.Need-time-of-requires Inv-loop μ-loop
-time-of-requires c κs = search needs
+long-requires : tie.Need-long-requires Inv-loop μ-loop
+long-requires c κs = search needs
 
 mul-l : tie.Need-mul-l Inv-loop μ-loop
 mul-l c = search needs
@@ -72,8 +75,8 @@ mul-l c = search needs
 element-write-l-3 : tie.Need-element-write-l-3 Inv-loop μ-loop
 element-write-l-3 c = search needs
 
-time-of-requires-2 : tie.Need-time-of-requires-2 Inv-loop μ-loop
-time-of-requires-2 c κs = search needs
+long-requires-2 : tie.Need-long-requires-2 Inv-loop μ-loop
+long-requires-2 c κs = search needs
 
 mul-l-2 : tie.Need-mul-l-2 Inv-loop μ-loop
 mul-l-2 c = search needs
@@ -81,8 +84,8 @@ mul-l-2 c = search needs
 element-write-l-4 : tie.Need-element-write-l-4 Inv-loop μ-loop
 element-write-l-4 c = search needs
 
-long-requires : tie.Need-long-requires Inv-loop μ-loop
-long-requires c κs = search needs
+long-requires-3 : tie.Need-long-requires-3 Inv-loop μ-loop
+long-requires-3 c κs = search needs
 
 mul-l-3 : tie.Need-mul-l-3 Inv-loop μ-loop
 mul-l-3 c = search needs
@@ -90,8 +93,8 @@ mul-l-3 c = search needs
 element-write-l-5 : tie.Need-element-write-l-5 Inv-loop μ-loop
 element-write-l-5 c = search needs
 
-long-requires-2 : tie.Need-long-requires-2 Inv-loop μ-loop
-long-requires-2 c κs = search needs
+long-requires-4 : tie.Need-long-requires-4 Inv-loop μ-loop
+long-requires-4 c κs = search needs
 
 mul-l-4 : tie.Need-mul-l-4 Inv-loop μ-loop
 mul-l-4 c = search needs
@@ -110,16 +113,16 @@ loop-less c = search needs
 
 loop-again : tie.Need-loop-again Inv-loop μ-loop
 loop-again c =
-    laying-next _ (c .before .before .before .before .before .before .before .before .before .before .before .before .before .before .loop .l) (c .before .before .before .before .before .before .before .before .before .before .before .before .before .before .loop .i) (c .before .before .before .before .before .before .before .before .before .before .place .result) _ (c .before .before .before .before .before .before .before .place2 .result) _ _ _ _ _ (c .before .before .before .before .before .before .before .before .before .before .before .before .before .before .loop .inv) (c .before .before .before .before .before .before .before .before .before .before .before .before .before .loop-test .taken) (record {
-      place = c .before .before .before .before .before .before .before .before .before .before .place .ensures .0;
-      holder = c .before .before .before .before .before .before .before .before .holder-of .ensures;
-      owner = c .before .before .before .before .before .before .before .place2 .ensures .0;
+    let l = c .before .before .before .before .before .before .before .before .before .before .before .before .loop in
+    let w = c .before .before .before .before .before .before .holder-of .result in
+    laying-next _ (l .l) (l .i) (c .before .before .before .before .before .before .before .before .place .result) w _ (c .before .before .before .before .before .if1 .held) _ _ _ _ (l .inv) (c .before .before .before .before .before .before .before .before .before .before .before .loop-test .taken) (record {
+      place = c .before .before .before .before .before .before .before .before .place .ensures .0;
+      holder = c .before .before .before .before .before .before .holder-of .ensures;
+      held-there = ⊎-elim (λ x. inl (x .0 .taken, x .4 ∙ ap (λ (k : ℕ). getD (getD (c .before .before .before .before .before .before .before .before .before .before .before .before .before .args .t1 .jobs) k noJob .held) (c .before .before .before .before .before .before .before .before .place .result) free) (x .1 .ensures))) (λ x. inr (x .0 .left, x .1)) (c .before .before .before .before .before .if1 .came);
       is-left = c .before .before .before .before .is-left .ensures;
-      hold-time = c .before .before .before .time-of .ensures;
-      undo-time = c .before .before .time-of2 .ensures;
-      run-time = c .before .long .ensures;
-      rollback-time = c .long2 .ensures;
-    })
+      run-time = c .before .long3 .ensures;
+      rollback-time = c .long4 .ensures;
+    }) (c .before .before .before .long .ensures) (c .before .before .long2 .ensures)
 
 returns : tie.Need-returns Inv-loop μ-loop
 returns c = laying-ended _ _ _ (c .before .loop .inv) (c .loop-test .left)
@@ -136,7 +139,7 @@ lay-spec =
     place-requires
     element-copy-out-holder-of
     holder-of-requires
-    place-requires-2
+    wide-requires
     mul-owner
     element-copy-out-owner
     mul-held
@@ -144,16 +147,16 @@ lay-spec =
     is-left-requires
     element-write-l
     element-write-l-2
-    time-of-requires
+    long-requires
     mul-l
     element-write-l-3
-    time-of-requires-2
+    long-requires-2
     mul-l-2
     element-write-l-4
-    long-requires
+    long-requires-3
     mul-l-3
     element-write-l-5
-    long-requires-2
+    long-requires-4
     mul-l-4
     element-write-l-6
     element-write-l-7

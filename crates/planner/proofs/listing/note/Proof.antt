@@ -3,9 +3,6 @@ use borrow.Author.Needs.{needs}
 use Rattle.planner.proofs.listing.note.Statement.{statement}
 use Rattle.planner.proofs.listing.note.Tie as tie
 
-cast-v : tie.Need-cast-v
-cast-v c = search needs
-
 element-write-v : tie.Need-element-write-v
 element-write-v c = search needs
 
@@ -19,4 +16,4 @@ returns : tie.Need-returns
 returns c = rw (c .knot-after .ensures)
 
 pub note-spec : {M : Type 1} → statement M
-note-spec = tie.close (tie.spec cast-v element-write-v add-v knot-after-requires returns)
+note-spec = tie.close (tie.spec element-write-v add-v knot-after-requires returns)

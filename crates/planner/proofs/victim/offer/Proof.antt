@@ -29,6 +29,9 @@ returns c =
 loss-of-requires : tie.Need-loss-of-requires
 loss-of-requires c κs = search needs
 
+cast-lesser : tie.Need-cast-lesser
+cast-lesser c = search needs
+
 lesser-requires : tie.Need-lesser-requires
 lesser-requires c κs = search needs
 
@@ -49,6 +52,7 @@ offer-spec =
     element-copy-out-if2
     returns
     loss-of-requires
+    cast-lesser
     lesser-requires
     returns-2
     returns-3)
