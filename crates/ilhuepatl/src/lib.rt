@@ -3,7 +3,6 @@ mod answer;
 pub mod calls;
 mod number;
 mod part;
-mod row;
 
 pub struct Verdict {
     pub number: u8,
