@@ -1,77 +1,51 @@
--- What a change of f to g does to the circles.
+-- Changing edges of a graph with one edge out of each place: which changes leave no circle behind. Assumes nothing.
 use Prim.Native.Nat.{ℕ, _<_, _≤_}
-use native.Mathlib.Decide.{ℕ-discrete}
 use native.Mathlib.Omega.{arith}
 use mathlib.Core.Path.{_≡_, sym, _∙_}
 use mathlib.Core.Logic.{_⊎_, inl, inr}
-use Rattle.laws.specs.Search.{lt-or-le}
 use Rattle.laws.specs.Walk.{follow, follow-zero, follow-in, same-walk}
-use Rattle.laws.specs.Circle.{OnCircle, NoCircle, Leaves, circle-after, circle-in, circle-not-left}
+use Rattle.laws.specs.Circle.{OnCircle, NoCircle, Leaves, circle-after, circle-in}
+
+pub leaves-next : (f : ℕ → ℕ) (n k : ℕ) → k < n → n ≤ f k → Leaves f n k
+leaves-next f n k h o = record { after = 1; out = rw (follow-in f n 0 k h ∙ follow-zero f n (f k)) o }
+
+-- the place after one on a circle is on it too, so its edge does not leave either
+next-in : {g : ℕ → ℕ} {n x : ℕ} → OnCircle g n x → g (g x) < n
+next-in {g} {n} {x} c = circle-in (rw (follow-in g n 0 x (c .node) ∙ follow-zero g n (g x)) at (circle-after 1 c))
 
 module _ {f g : ℕ → ℕ} {n : ℕ} where
-  -- where each node is as in f or its walk in g ends, g is f all along a circle of g
-  pub walk-kept : ((k : ℕ) → k < n → (g k ≡ f k) ⊎ Leaves g n k) → {i : ℕ} → OnCircle g n i → (m : ℕ) → follow g n m i ≡ follow f n m i
-  walk-kept change {i} c = same-walk f g n i (λ m h. elim (change (follow g n m i) h) [ inl e ↦ e | inr l ↦ absurd (circle-not-left (circle-after m c) l) ])
+  -- If no circle of g uses a changed edge, a circle of g is walked in f just so.
+  old-walk : ((x : ℕ) → OnCircle g n x → g x ≡ f x) → {i : ℕ} → OnCircle g n i → (m : ℕ) → follow g n m i ≡ follow f n m i
+  old-walk same {i} c = same-walk f g n i (λ m h. same (follow g n m i) (circle-after m c))
 
-  -- so a circle of g is a circle of f
-  pub circle-kept : ((k : ℕ) → k < n → (g k ≡ f k) ⊎ Leaves g n k) → {i : ℕ} → OnCircle g n i → OnCircle f n i
-  circle-kept change {i} c = record {
+  old-circle : ((x : ℕ) → OnCircle g n x → g x ≡ f x) → {i : ℕ} → OnCircle g n i → OnCircle f n i
+  old-circle same {i} c = record {
     node = c .node;
     steps = c .steps;
     some-steps = c .some-steps;
-    back = sym (walk-kept change c (c .steps)) ∙ c .back;
+    back = sym (old-walk same c (c .steps)) ∙ c .back;
   }
 
-  pub no-circle-kept : ((k : ℕ) → k < n → (g k ≡ f k) ⊎ Leaves g n k) → NoCircle f n → NoCircle g n
-  no-circle-kept change none = record { never = λ i c. none .never i (circle-kept change c) }
-
--- a walk whose first step is out, and one whose second step is out
-pub leaves-next : (f : ℕ → ℕ) (n k : ℕ) → k < n → n ≤ f k → Leaves f n k
-leaves-next f n k h l = record { after = 1; out = omega (arith, follow-in f n 0 k h, follow-zero f n (f k)) }
-
-pub leaves-second : (f : ℕ → ℕ) (n k : ℕ) → k < n → n ≤ f (f k) → Leaves f n k
-leaves-second f n k h l = elim (lt-or-le (f k) n) [
-  | inl m ↦ record { after = 2; out = omega (arith, follow-in f n 1 k h, follow-in f n 0 (f k) m, follow-zero f n (f (f k))) }
-  | inr m ↦ leaves-next f n k h m
-]
-
-module _ {f g : ℕ → ℕ} {n : ℕ} where
-  removed : ((k : ℕ) → k < n → (g k ≡ f k) ⊎ (n ≤ g k)) → (k : ℕ) → k < n → (g k ≡ f k) ⊎ Leaves g n k
-  removed change k h = elim (change k h) [ inl e ↦ inl e | inr l ↦ inr (leaves-next g n k h l) ]
-
-  -- REMOVING: where each node is as before or leads to none, no circle comes up
-  pub removing : ((k : ℕ) → k < n → (g k ≡ f k) ⊎ (n ≤ g k)) → NoCircle f n → NoCircle g n
-  removing change = no-circle-kept (removed change)
-
-  -- GRANTING: where j leads to none, and each other node is as before or leads to j, no circle comes up
-  pub granting : (j : ℕ) → n ≤ g j → ((k : ℕ) → k < n → (k ≡ j → ⊥) → (g k ≡ f k) ⊎ (g k ≡ j)) → NoCircle f n → NoCircle g n
-  granting j free change = no-circle-kept into
-    where
-      into : (k : ℕ) → k < n → (g k ≡ f k) ⊎ Leaves g n k
-      into k h = elim (ℕ-discrete k j) [
-        | yes e ↦ inr (leaves-next g n k h (rw e free))
-        | no ne ↦ elim (change k h ne) [ inl e ↦ inl e | inr e ↦ inr (leaves-second g n k h (rw e free)) ]
-      ]
-
-  -- both at once, and with several such j: each node is as before, or leads to none, or to a node that leads to none
+  -- A changed edge that leaves, or leads to a place whose edge leaves, is on no circle: a circle of g is one of f.
   pub settling : ((k : ℕ) → k < n → (g k ≡ f k) ⊎ (n ≤ g k) ⊎ (n ≤ g (g k))) → NoCircle f n → NoCircle g n
-  settling change = no-circle-kept into
+  settling change none = record { never = λ i c. none .never i (old-circle unchanged c) }
     where
-      into : (k : ℕ) → k < n → (g k ≡ f k) ⊎ Leaves g n k
-      into k h = elim (change k h) [
-        | inl e ↦ inl e
-        | inr r ↦ elim r [ inl l ↦ inr (leaves-next g n k h l) | inr l ↦ inr (leaves-second g n k h l) ]
+      unchanged : (x : ℕ) → OnCircle g n x → g x ≡ f x
+      unchanged x c = elim (change x (c .node)) [
+        | inl e ↦ e
+        | inr (inl o) ↦ absurd (omega (arith, circle-in c))
+        | inr (inr o) ↦ absurd (omega (arith, next-in c))
       ]
 
-  -- CUTTING: a circle of g is a circle of f, and none of its nodes is cut
-  pub cut-circle : ((k : ℕ) → k < n → (g k ≡ f k) ⊎ (n ≤ g k)) → {i : ℕ} → OnCircle g n i → OnCircle f n i
-  cut-circle change c = circle-kept (removed change) c
-
-  pub cut-circle-whole : ((k : ℕ) → k < n → (g k ≡ f k) ⊎ (n ≤ g k)) → {i : ℕ} → OnCircle g n i → (m : ℕ) → g (follow f n m i) < n
-  cut-circle-whole change {i} c m = rw (walk-kept (removed change) c m) at (circle-in (circle-after m c))
-
-  -- so where every circle of f has a cut node, g has no circle
+  -- Edges that only leave make no circle, and a circle of f that loses an edge so is gone.
   pub cutting : ((k : ℕ) → k < n → (g k ≡ f k) ⊎ (n ≤ g k)) → ((i : ℕ) → OnCircle f n i → (m : ℕ) × (n ≤ g (follow f n m i))) → NoCircle g n
-  cutting change every = record {
-    never = λ i c. let r = every i (cut-circle change c) in omega (arith, cut-circle-whole change c (r .0), r .1);
-  }
+  cutting change cut = record { never = gone }
+    where
+      unchanged : (x : ℕ) → OnCircle g n x → g x ≡ f x
+      unchanged x c = elim (change x (c .node)) [ inl e ↦ e | inr o ↦ absurd (omega (arith, circle-in c)) ]
+
+      gone : (i : ℕ) → OnCircle g n i → ⊥
+      gone i c =
+          let t = cut i (old-circle unchanged c) in
+          let o : n ≤ g (follow g n (t .0) i) = rw (old-walk unchanged c (t .0)) (t .1) in
+          omega (arith, circle-in (circle-after (t .0) c))
