@@ -1,6 +1,4 @@
 // The record question, asked and shown.
-ghost use mathlib.Core.Path.{_≡_};
-ghost use Rattle.refusals.specs.Shown.{askedOf, shownOf};
 use crate::cases::case1;
 use crate::cases::case3;
 use crate::cases::case5;
@@ -17,25 +15,17 @@ pub struct Shown {
     pub bytes: usize,
 }
 
-fn numbers(number: u8, place: usize, part: &[u8]) -> Shown
-    ensures { λ r. ⌜ r ≡ shownOf number place (now (part .entry)) ⌝ }
-{
+// The answer as plain numbers: a record's bytes are those from its start to its end.
+fn asked(s: &[u8], job: usize) -> Shown {
+    let f = book::question::find_record(s, job);
     Shown {
-        number,
-        place,
-        bytes: part.len(),
+        number: f.number,
+        place: f.place,
+        bytes: f.end - f.start,
     }
 }
 
-// The one function that holds an answer; whoever calls it has plain numbers.
-fn asked(s: &[u8], job: usize) -> Shown
-    ensures { λ r. ⌜ r ≡ askedOf (now (s .entry)) job ⌝ }
-{
-    let r = book::question::record(s, job);
-    numbers(r.number, r.place, r.part)
-}
-
-// One row: the refusal, none, or how long the part is.
+// One row: the refusal, none, or how long the record is.
 fn show(name: &[u8], s: &[u8], job: usize) {
     let r = asked(s, job);
     label(name);
