@@ -7,4 +7,5 @@ pub mod Onward
 pub mod Question
 pub mod Spans
 pub mod Size
+pub mod Cursor
 pub mod Example

@@ -8,6 +8,7 @@ pub mod request; // request.rt: rollback times and the request
 pub mod held; // held.rt: the held list
 pub mod pieces; // pieces.rt: the curve
 pub mod reader; // reader.rt: header, records, the whole book
+pub mod cursor; // cursor.rt: the book and the reader's place together
 pub mod question; // question.rt: one job's record as a part of the book
 
 // Where the reader stands. number: 0, or the refusal's. place: the last field's first byte, or the refusal's place.
