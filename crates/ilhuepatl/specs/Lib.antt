@@ -5,4 +5,6 @@ pub mod Stores
 pub mod Written
 pub mod Calls
 pub mod Outcomes
+pub mod Rows
+pub mod RowPlans
 pub mod Example

@@ -5,7 +5,7 @@ ghost use Rattle.ilhuepatl.specs.Calls.{verdictOf, outcomeOf, word, reco
 use crate::Verdict;
 use crate::answer::put_answer;
 
-const ROOM: u8 = 1;
+pub(crate) const ROOM: u8 = 1;
 
 fn verdict(number: u8, place: usize) -> Verdict
     ensures { λ r. ⌜ r ≡ verdictOf number place ⌝ }

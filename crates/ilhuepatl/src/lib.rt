@@ -3,6 +3,7 @@ mod answer;
 pub mod calls;
 mod number;
 mod part;
+pub mod row;
 
 pub struct Verdict {
     pub number: u8,
