@@ -1,4 +1,4 @@
--- A curve passes exactly when it keeps its rules. Assumes nothing.
+-- A curve passes exactly when it keeps its rules.
 use Prim.Native.Nat.{ℕ, zero, suc, _+_, _-_, _<_, _≤_}
 use native.Mathlib.Omega.{arith}
 use mathlib.Core.Path.{_≡_, refl, sym, _∙_}
@@ -12,10 +12,10 @@ use Rattle.laws.specs.Search.{lt-or-le}
 use Rattle.curve.specs.declared.Piece.{Piece}
 use Rattle.curve.specs.Worth.{noPiece, lineAt}
 use Rattle.curve.specs.Bound.{Allowed, pieceOf}
-use Rattle.book.specs.declared.Reading.{Reading}
+use Rattle.cursor.specs.declared.Reading.{Reading}
 use Rattle.book.specs.declared.pieces.PieceList.{PieceList}
-use Rattle.book.specs.Refusal.{RANGE}
-use Rattle.book.specs.Field.{valueAt, gotAt}
+use Rattle.cursor.specs.Refusal.{RANGE}
+use Rattle.cursor.specs.Field.{valueAt, gotAt}
 use Rattle.book.specs.Rules.{signedOf, lineOk}
 use Rattle.book.specs.Format.{startRead, signedRead, pieceRead, pieceNext, piecesRead, endRead, curveRead}
 use Rattle.accepted.specs.Fields.{Onward, Passes, onward, field-got, field-back, ruled-got, ruled-back}

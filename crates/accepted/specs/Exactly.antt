@@ -1,4 +1,4 @@
--- A book is accepted exactly when it keeps its rules; "none is given otherwise". Assumes nothing.
+-- A book is accepted exactly when it keeps its rules; "none is given otherwise".
 use Prim.Native.Nat.{ℕ, suc, _<_, _≤_}
 use native.Mathlib.Omega.{arith}
 use mathlib.Core.Path.{_≡_, refl, sym, _∙_}
@@ -10,13 +10,14 @@ use lib.Dec.{ltb, eqb}
 use borrow.Author.Tests.{lt-ltb, eq-eqb, eqb-true}
 use Rattle.laws.specs.Count.{upto, upto-each}
 use Rattle.laws.specs.Search.{lt-or-le}
-use Rattle.book.specs.declared.Reading.{Reading}
+use Rattle.cursor.specs.declared.Reading.{Reading}
 use Rattle.book.specs.declared.Span.{Span}
 use Rattle.book.specs.declared.Book.{Book}
 use Rattle.book.specs.declared.reader.Records.{Records}
-use Rattle.book.specs.Refusal.{TAIL}
-use Rattle.book.specs.Field.{gotAt}
-use Rattle.book.specs.Format.{headerOf, noRecord, noSpan, recordRead, recordNext, noRecords, recordsRead, tailRead, acceptedBook, refusedBook, bookOf}
+use Rattle.cursor.specs.Refusal.{TAIL}
+use Rattle.cursor.specs.Field.{gotAt}
+use Rattle.cursor.specs.Header.{headerOf}
+use Rattle.book.specs.Format.{noRecord, noSpan, recordRead, recordNext, noRecords, recordsRead, tailRead, acceptedBook, refusedBook, bookOf}
 use Rattle.accepted.specs.Fields.{Onward, onward, rule-kept, rule-passed}
 use Rattle.accepted.specs.Sticks.{unrefused-before, record-next-sticks, records-sticks, tail-sticks, loop-sticks}
 use Rattle.accepted.specs.Layout.{Bytes, listed, listed-none, listed-next, recordAt, jobsAt, resourcesAt, nowAt, jobPlace}

@@ -1,4 +1,4 @@
--- One field and one further rule: when they are refused, where, and what passing says. Assumes nothing.
+-- One field and one further rule: when they are refused, where, and what passing says.
 use Prim.Native.Nat.{ℕ, _+_, _-_, _<_, _≤_}
 use native.Mathlib.Omega.{arith}
 use mathlib.Core.Path.{_≡_, refl, ap}
@@ -9,9 +9,9 @@ use lib.ListN.{length}
 use lib.Dec.{ltb}
 use borrow.Author.Tests.{lt-ltb, le-ltb, ltb-false}
 use Rattle.laws.specs.Search.{lt-or-le}
-use Rattle.book.specs.declared.Reading.{Reading}
-use Rattle.book.specs.Refusal.{CUT}
-use Rattle.book.specs.Field.{valueAt, refusedAt, gotAt, judged, readAt, fieldOf, ruleOf}
+use Rattle.cursor.specs.declared.Reading.{Reading}
+use Rattle.cursor.specs.Refusal.{CUT}
+use Rattle.cursor.specs.Field.{valueAt, refusedAt, gotAt, judged, readAt, fieldOf, ruleOf}
 
 -- the reading goes on at p
 pub record Onward (r : Reading) (p : ℕ) : Type 0 where

@@ -1,4 +1,4 @@
--- What acceptance gives the planner, said of the book alone. Assumes nothing.
+-- What acceptance gives the planner, said of the book alone.
 use Prim.Native.Nat.{ℕ, _<_, _≤_}
 use native.Mathlib.Nat.{not-suc-le-zero}
 use native.Mathlib.Omega.{arith}

@@ -1,4 +1,4 @@
--- The header passes exactly when it keeps its rules. Assumes nothing.
+-- The header passes exactly when it keeps its rules.
 use Prim.Native.Nat.{ℕ}
 use native.Mathlib.Omega.{arith}
 use mathlib.Core.Path.{_≡_, refl}
@@ -6,10 +6,10 @@ use mathlib.Core.List.{List}
 use lib.ListN.{length}
 use lib.Dec.{leb}
 use borrow.Author.Tests.{le-leb, leb-true}
-use Rattle.book.specs.declared.Header.{Header}
-use Rattle.book.specs.Refusal.{SIZE, VERSION, COUNT, RANGE}
-use Rattle.book.specs.Field.{valueAt, gotAt, fieldOf, ruleOf}
-use Rattle.book.specs.Format.{headerOf}
+use Rattle.cursor.specs.declared.Header.{Header}
+use Rattle.cursor.specs.Refusal.{SIZE, VERSION, COUNT, RANGE}
+use Rattle.cursor.specs.Field.{valueAt, gotAt, fieldOf, ruleOf}
+use Rattle.cursor.specs.Header.{headerOf}
 use Rattle.accepted.specs.Fields.{onward, field-got, field-back, rule-kept, rule-passed}
 use Rattle.accepted.specs.Sticks.{unrefused-before, field-sticks}
 use Rattle.accepted.specs.Layout.{jobsAt, resourcesAt, nowAt}

@@ -1,4 +1,4 @@
--- A held list passes exactly when it keeps its rules. Assumes nothing.
+-- A held list passes exactly when it keeps its rules.
 use Prim.Native.Nat.{ℕ, suc, _+_, _<_, _≤_}
 use native.Mathlib.Omega.{arith}
 use mathlib.Core.Path.{_≡_, refl, sym, _∙_}
@@ -8,10 +8,10 @@ use lib.ListN.{length, getD, replicate}
 use lib.Dec.{ltb, eqb}
 use borrow.Author.Tests.{lt-ltb, eq-eqb, ltb-true, eqb-true}
 use Rattle.laws.specs.Count.{upto, upto-each}
-use Rattle.book.specs.declared.Reading.{Reading}
+use Rattle.cursor.specs.declared.Reading.{Reading}
 use Rattle.book.specs.declared.held.HeldList.{HeldList}
-use Rattle.book.specs.Refusal.{RANGE, TWICE}
-use Rattle.book.specs.Field.{valueAt, gotAt, fieldOf}
+use Rattle.cursor.specs.Refusal.{RANGE, TWICE}
+use Rattle.cursor.specs.Field.{valueAt, gotAt, fieldOf}
 use Rattle.book.specs.Rules.{leastRollback}
 use Rattle.book.specs.Format.{noEntry, unheldRead, heldResource, entryRead, entryNext, heldRead}
 use Rattle.accepted.specs.Fields.{Onward, Passes, onward, field-got, field-back, ruledOf, ruled-got, ruled-back, rule-kept, rule-passed}

@@ -1,4 +1,4 @@
--- The holders by resource, kept while the held lists are read: who stands there is who named it, and 255 where nobody did. Assumes nothing.
+-- The holders by resource, kept while the held lists are read: who stands there is who named it, and 255 where nobody did.
 use Prim.Native.Nat.{ℕ, zero, suc, _<_, _≤_}
 use native.Mathlib.Nat.{not-suc-le-zero, le-of-suc-le-suc}
 use native.Mathlib.Decide.{ℕ-discrete}

@@ -1,4 +1,4 @@
--- A job's record passes exactly when it keeps its rules. Assumes nothing.
+-- A job's record passes exactly when it keeps its rules.
 use Prim.Native.Nat.{ℕ, _+_, _<_, _≤_}
 use native.Mathlib.Omega.{arith}
 use mathlib.Core.Path.{_≡_, refl}
@@ -8,10 +8,10 @@ use lib.ListN.{length, getD}
 use lib.Dec.{eqb}
 use borrow.Author.Tests.{eq-eqb, eqb-true, eqb-false}
 use Rattle.job.specs.declared.Request.{Request}
-use Rattle.book.specs.declared.Reading.{Reading}
+use Rattle.cursor.specs.declared.Reading.{Reading}
 use Rattle.book.specs.declared.reader.RecordRead.{RecordRead}
-use Rattle.book.specs.Refusal.{RANGE, MODE}
-use Rattle.book.specs.Field.{valueAt, gotAt, fieldOf}
+use Rattle.cursor.specs.Refusal.{RANGE, MODE}
+use Rattle.cursor.specs.Field.{valueAt, gotAt, fieldOf}
 use Rattle.book.specs.Rules.{modeOk}
 use Rattle.book.specs.Format.{noEntry, rollbackRead, requestRead, heldRead, curveRead, recordRead}
 use Rattle.accepted.specs.Fields.{Onward, Passes, onward, field-got, field-back, rule-kept, rule-passed}

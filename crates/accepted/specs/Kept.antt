@@ -1,9 +1,9 @@
--- The list of rules that an accepted book keeps, each a fact on the value that stands at its place. Assumes nothing.
+-- The list of rules that an accepted book keeps, each a fact on the value that stands at its place.
 use Prim.Native.Nat.{ℕ, _<_, _≤_}
 use mathlib.Core.Path.{_≡_}
 use mathlib.Core.List.{List}
 use lib.ListN.{length}
-use Rattle.book.specs.Field.{valueAt}
+use Rattle.cursor.specs.Field.{valueAt}
 use Rattle.accepted.specs.Layout.{heldAt, holdsAt, recordAt, recordEnd, jobsAt, resourcesAt, nowAt, jobPlace}
 use Rattle.accepted.specs.Rules.{GoodRecord}
 use Rattle.accepted.specs.Holders.{Before}

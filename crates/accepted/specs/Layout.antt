@@ -1,4 +1,4 @@
--- What the bytes at a place say (01, "The job book"), field for field, whether or not they keep a rule. Assumes nothing.
+-- What the bytes at a place say (01, "The job book"), field for field, whether or not they keep a rule.
 use Prim.Native.Nat.{ℕ, zero, suc, _+_, _*_, _<_, _≤_}
 use native.Mathlib.Nat.{not-suc-le-zero}
 use native.Mathlib.Decide.{ℕ-discrete}
@@ -16,7 +16,7 @@ use Rattle.curve.specs.Worth.{noPiece}
 use Rattle.job.specs.declared.Request.{Request}
 use Rattle.book.specs.declared.Entry.{Entry}
 use Rattle.book.specs.declared.Record.{Record}
-use Rattle.book.specs.Field.{valueAt}
+use Rattle.cursor.specs.Field.{valueAt}
 use Rattle.book.specs.Rules.{pieceFrom}
 use Rattle.book.specs.Format.{noEntry}
 

@@ -14,3 +14,4 @@ pub mod Exactly
 pub mod Good
 pub mod Places
 pub mod Spans
+pub mod Reach

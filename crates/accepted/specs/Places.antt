@@ -1,4 +1,4 @@
--- The place of a refusal is inside the book, or its end where a field is cut. Assumes nothing.
+-- The place of a refusal is inside the book, or its end where a field is cut.
 use Prim.Native.Nat.{ℕ, _+_, _-_, _<_, _≤_}
 use native.Mathlib.Omega.{arith}
 use mathlib.Core.Path.{_≡_, refl}
@@ -10,15 +10,16 @@ use lib.Dec.{ltb, leb, eqb}
 use borrow.Author.Tests.{lt-ltb, le-ltb, eqb-false}
 use Rattle.laws.specs.Count.{upto, upto-each}
 use Rattle.laws.specs.Search.{lt-or-le}
-use Rattle.book.specs.declared.Reading.{Reading}
+use Rattle.cursor.specs.declared.Reading.{Reading}
 use Rattle.book.specs.declared.Book.{Book}
 use Rattle.book.specs.declared.held.HeldList.{HeldList}
 use Rattle.book.specs.declared.pieces.PieceList.{PieceList}
 use Rattle.book.specs.declared.reader.Records.{Records}
-use Rattle.book.specs.Refusal.{SIZE, VERSION, COUNT, CUT, RANGE, TWICE, MODE, TAIL}
-use Rattle.book.specs.Field.{valueAt, refusedAt, gotAt, fieldOf, ruleOf}
+use Rattle.cursor.specs.Refusal.{SIZE, VERSION, COUNT, CUT, RANGE, TWICE, MODE, TAIL}
+use Rattle.cursor.specs.Field.{valueAt, refusedAt, gotAt, fieldOf, ruleOf}
 use Rattle.book.specs.Rules.{rollbackOk, requestOk, aroundOk, lineOk, modeOk}
-use Rattle.book.specs.Format.{headerOf, rollbackRead, requestedResource, requestedRollback, requestRead, unheldRead, heldResource, entryRead, entryNext, heldRead, startRead, signedRead, pieceRead, pieceNext, piecesRead, endRead, curveRead, recordRead, recordNext, recordsRead, noRecords, tailRead, bookOf, refusedBook, acceptedBook}
+use Rattle.cursor.specs.Header.{headerOf}
+use Rattle.book.specs.Format.{rollbackRead, requestedResource, requestedRollback, requestRead, unheldRead, heldResource, entryRead, entryNext, heldRead, startRead, signedRead, pieceRead, pieceNext, piecesRead, endRead, curveRead, recordRead, recordNext, recordsRead, noRecords, tailRead, bookOf, refusedBook, acceptedBook}
 use Rattle.accepted.specs.Fields.{Onward, onward, field-stays, field-cut, field-outside, field-got, field-passed, rule-stays, rule-broken, rule-kept, rule-passed, ruledOf}
 use Rattle.accepted.specs.Sticks.{Sticks, sticks-then, unrefused-before, field-sticks, rollback-sticks, request-sticks, held-sticks, curve-sticks}
 

@@ -1,4 +1,4 @@
--- A rollback time and a request pass exactly when they keep their rules. Assumes nothing.
+-- A rollback time and a request pass exactly when they keep their rules.
 use Prim.Native.Nat.{ℕ, _+_, _≤_}
 use native.Mathlib.Omega.{arith}
 use mathlib.Core.Path.{_≡_, refl}
@@ -7,9 +7,9 @@ use mathlib.Core.List.{List}
 use lib.ListN.{length}
 use lib.Dec.{leb, eqb}
 use borrow.Author.Tests.{lt-ltb, le-leb, ne-eqb, ltb-true, leb-true, eqb-true}
-use Rattle.book.specs.declared.Reading.{Reading}
-use Rattle.book.specs.Refusal.{RANGE}
-use Rattle.book.specs.Field.{valueAt, gotAt, fieldOf}
+use Rattle.cursor.specs.declared.Reading.{Reading}
+use Rattle.cursor.specs.Refusal.{RANGE}
+use Rattle.cursor.specs.Field.{valueAt, gotAt, fieldOf}
 use Rattle.book.specs.Rules.{rollbackOk, requestOk, ifRequested}
 use Rattle.book.specs.Format.{rollbackRead, requestedResource, requestedRollback, requestRead}
 use Rattle.accepted.specs.Fields.{Onward, Passes, onward, field-got, field-back, ruled-got, ruled-back}

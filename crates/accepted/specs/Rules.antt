@@ -1,4 +1,4 @@
--- The rules of 01's "Numbers" and "The job book" for one job's record, each said of its value. Assumes nothing.
+-- The rules of 01's "Numbers" and "The job book" for one job's record, each said of its value.
 use Prim.Native.Nat.{ℕ, _<_, _≤_}
 use native.Mathlib.Omega.{arith}
 use mathlib.Core.Path.{_≡_}

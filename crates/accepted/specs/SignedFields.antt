@@ -1,4 +1,4 @@
--- A signed field passes exactly when its number is near enough to 0. Assumes nothing.
+-- A signed field passes exactly when its number is near enough to 0.
 use Prim.Native.Nat.{ℕ, _+_, _-_, _≤_}
 use native.Mathlib.Omega.{arith}
 use mathlib.Core.Path.{_≡_, refl}
@@ -9,9 +9,9 @@ use lib.Dec.{ltb, leb}
 use lib.IntN.{pos, subℕ, natAbs}
 use borrow.Author.Tests.{lt-ltb, ltb-true, ltb-false, leb-true, leb-false}
 use Rattle.laws.specs.Signed.{abs-is, up-sub, dn-sub}
-use Rattle.book.specs.declared.Reading.{Reading}
-use Rattle.book.specs.Refusal.{RANGE}
-use Rattle.book.specs.Field.{valueAt, gotAt}
+use Rattle.cursor.specs.declared.Reading.{Reading}
+use Rattle.cursor.specs.Refusal.{RANGE}
+use Rattle.cursor.specs.Field.{valueAt, gotAt}
 use Rattle.book.specs.Rules.{signedOf, aroundOk}
 use Rattle.book.specs.Format.{signedRead}
 use Rattle.accepted.specs.Fields.{Onward, ruled-got, ruled-back}

@@ -1,4 +1,4 @@
--- The spans of an accepted book's records lie end to end, from the header to the book's end. Assumes nothing.
+-- The spans of an accepted book's records lie end to end, from the header to the book's end.
 use Prim.Native.Nat.{ℕ, suc, _<_, _≤_}
 use native.Mathlib.Omega.{arith}
 use mathlib.Core.Path.{_≡_, sym, ap, _∙_}

@@ -1,4 +1,4 @@
--- "The first one met is given": once a reading is refused, no later step changes the number or the place. Assumes nothing.
+-- "The first one met is given": once a reading is refused, no later step changes the number or the place.
 use Prim.Native.Nat.{ℕ, zero, suc, _<_, _≤_}
 use native.Mathlib.Omega.{arith}
 use mathlib.Core.Path.{_≡_, refl, ap, _∙_}
@@ -8,12 +8,12 @@ use mathlib.Core.List.{List}
 use Rattle.laws.specs.Count.{upto}
 use Rattle.laws.specs.Search.{lt-or-le}
 use Rattle.curve.specs.declared.Piece.{Piece}
-use Rattle.book.specs.declared.Reading.{Reading}
+use Rattle.cursor.specs.declared.Reading.{Reading}
 use Rattle.book.specs.declared.held.HeldList.{HeldList}
 use Rattle.book.specs.declared.pieces.PieceList.{PieceList}
 use Rattle.book.specs.declared.reader.Records.{Records}
-use Rattle.book.specs.Refusal.{RANGE}
-use Rattle.book.specs.Field.{fieldOf, ruleOf}
+use Rattle.cursor.specs.Refusal.{RANGE}
+use Rattle.cursor.specs.Field.{fieldOf, ruleOf}
 use Rattle.book.specs.Format.{rollbackRead, requestedResource, requestedRollback, requestRead, unheldRead, heldResource, entryRead, entryNext, heldRead, startRead, signedRead, pieceRead, pieceNext, piecesRead, endRead, curveRead, recordRead, recordNext, recordsRead, noRecords, tailRead}
 use Rattle.accepted.specs.Fields.{field-stays, rule-stays}
 

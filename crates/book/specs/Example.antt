@@ -1,4 +1,4 @@
--- Worked examples of the book's rules, computed: the book of 01's case 5, and one short refused book for each number that the reader gives. Assumes nothing.
+-- Worked examples of the book's rules, computed: the book of 01's case 5, and one short refused book for each number that the reader gives.
 use Prim.Native.Nat.{ℕ}
 use mathlib.Core.Path.{_≡_, refl}
 use mathlib.Core.List.{List, [], _∷_, _++_, map}
@@ -7,11 +7,12 @@ use lib.IntN.{pos}
 use Rattle.laws.specs.Count.{upto}
 use Rattle.curve.specs.Worth.{noPiece}
 use Rattle.book.specs.declared.Record.{Record}
-use Rattle.book.specs.Refusal.{SIZE, VERSION, COUNT, CUT, RANGE, TWICE, MODE, TAIL}
-use Rattle.book.specs.Field.{valueAt, judged, readAt, fieldOf, ruleOf}
+use Rattle.cursor.specs.Refusal.{SIZE, VERSION, COUNT, CUT, RANGE, TWICE, MODE, TAIL}
+use Rattle.cursor.specs.Field.{valueAt, judged, readAt, fieldOf, ruleOf}
 use Rattle.book.specs.Rules.{rollbackOk, requestOk, ifRequested, leastRollback, modeOk, signedOf, aroundOk, lineOk}
-use Rattle.book.specs.Format.{headerOf, rollbackRead, requestedResource, requestedRollback, requestRead, unheldRead, heldResource, entryRead, noEntry, entryNext, heldRead, startRead, signedRead, pieceRead, pieceNext, piecesRead, endRead, curveRead, recordRead, noRecord, recordNext, noRecords, recordsRead, tailRead, acceptedBook, refusedBook, bookOf}
-use Rattle.book.specs.Question.{foundIn, partOf}
+use Rattle.cursor.specs.Header.{headerOf}
+use Rattle.book.specs.Format.{rollbackRead, requestedResource, requestedRollback, requestRead, unheldRead, heldResource, entryRead, noEntry, entryNext, heldRead, startRead, signedRead, pieceRead, pieceNext, piecesRead, endRead, curveRead, recordRead, noRecord, recordNext, noRecords, recordsRead, tailRead, acceptedBook, refusedBook, bookOf}
+use Rattle.book.specs.Question.{foundIn, between}
 
 -- ---- how the books below are put together
 
@@ -60,7 +61,8 @@ seen s =
     let b = bookOf s in
     let holder = getD (b .records) 0 noRecord in
     let asker = getD (b .records) 1 noRecord in
-    b .jobs ∷ getD (b .holders) 0 255 ∷ getD (holder .held) 0 noEntry .hold ∷ asker .request .resource ∷ asker .request .hold ∷ asker .curve .end ∷ length (partOf s (foundIn s 1)) ∷ []
+    let question = foundIn s 1 in
+    b .jobs ∷ getD (b .holders) 0 255 ∷ getD (holder .held) 0 noEntry .hold ∷ asker .request .resource ∷ asker .request .hold ∷ asker .curve .end ∷ length (between s (question .start) (question .end)) ∷ []
 
 -- two jobs; job 0 holds resource 0 for 6 and job 1 requests it for 5; job 1's curve ends at 100, and its record is 26 bytes long
 case5-seen : seen case5 ≡ 2 ∷ 0 ∷ 6 ∷ 0 ∷ 5 ∷ 100 ∷ 26 ∷ []

@@ -1,15 +1,14 @@
--- The job book as 01's "The job book" lays it out: the list of its rules, in book order, each line a field or a rule. Assumes nothing.
-use Prim.Native.Nat.{ℕ, _+_, _-_, _≤_}
-use mathlib.Core.Path.{_≡_}
+-- The job book as 01's "The job book" lays it out: the list of its rules, in book order, each line a field or a rule.
+use Prim.Native.Nat.{ℕ, _+_, _-_}
 use mathlib.Core.Bool.{cond}
 use mathlib.Core.List.{List}
-use lib.Dec.{ltb, leb, eqb}
+use lib.Dec.{ltb, eqb}
 use lib.ListN.{length, getD, set, replicate}
 use Rattle.laws.specs.Count.{upto}
 use Rattle.curve.specs.declared.Piece.{Piece}
 use Rattle.curve.specs.Worth.{noPiece}
-use Rattle.book.specs.declared.Reading.{Reading}
-use Rattle.book.specs.declared.Header.{Header}
+use Rattle.cursor.specs.declared.Reading.{Reading}
+use Rattle.cursor.specs.declared.Header.{Header}
 use Rattle.book.specs.declared.Entry.{Entry}
 use Rattle.book.specs.declared.Record.{Record}
 use Rattle.book.specs.declared.Span.{Span}
@@ -22,26 +21,10 @@ use Rattle.book.specs.declared.pieces.PieceList.{PieceList}
 use Rattle.book.specs.declared.pieces.CurveRead.{CurveRead}
 use Rattle.book.specs.declared.reader.RecordRead.{RecordRead}
 use Rattle.book.specs.declared.reader.Records.{Records}
-use Rattle.book.specs.Refusal.{SIZE, VERSION, COUNT, RANGE, TWICE, MODE, TAIL}
-use Rattle.book.specs.Field.{fieldOf, ruleOf, gotAt}
+use Rattle.cursor.specs.Refusal.{RANGE, TWICE, MODE, TAIL}
+use Rattle.cursor.specs.Field.{fieldOf, ruleOf}
+use Rattle.cursor.specs.Header.{headerOf}
 use Rattle.book.specs.Rules.{rollbackOk, requestOk, ifRequested, leastRollback, modeOk, aroundOk, lineOk, pieceFrom}
-
--- THE HEADER: "length 2 bytes (the whole book), version 1 byte (1), jobs 1, resources 1, now 4"
-unfoldable pub headerOf : List ℕ → Header
-headerOf s =
-    let least = ruleOf (leb 9 (length s)) SIZE 0 (gotAt 0 0 0) in
-    let size = fieldOf s 2 (length s) (length s) SIZE least in
-    let version = fieldOf s 1 1 1 VERSION size in
-    let jobs = fieldOf s 1 0 32 COUNT version in
-    let resources = fieldOf s 1 0 32 COUNT jobs in
-    let now = fieldOf s 4 0 2147483647 RANGE resources in
-    record { reading = now; jobs = jobs .value; resources = resources .value; now = now .value }
-
--- a header, with the bounds that the code passes on
-pub record Headed (s : List ℕ) (o : Header) : Type 0 where
-  pub is : o ≡ headerOf s
-  pub few : o .jobs ≤ 32
-  pub soon : o .now ≤ 2147483647
 
 -- A ROLLBACK TIME: "1 to 30,000, or 65,535"
 unfoldable pub rollbackRead : List ℕ → Reading → Reading

@@ -1,5 +1,3 @@
-pub mod Refusal
-pub mod Field
 pub mod Rules
 pub mod Twos
 pub mod Format
@@ -7,5 +5,4 @@ pub mod Onward
 pub mod Question
 pub mod Spans
 pub mod Size
-pub mod Cursor
 pub mod Example

@@ -1,18 +1,20 @@
--- A reading only moves on: where a later one is not refused, the earlier one was not, stands at or before it, and both are inside the book. Assumes nothing.
+-- A reading only moves on: where a later one is not refused, the earlier one was not, stands at or before it, and both are inside the book.
 use Prim.Native.Nat.{ℕ, zero, suc, _-_, _<_, _≤_}
 use native.Mathlib.Omega.{arith}
-use mathlib.Core.Path.{_≡_, refl}
-use mathlib.Core.Bool.{Bool, true, false, cond}
+use mathlib.Core.Path.{_≡_}
+use mathlib.Core.Bool.{Bool}
 use mathlib.Core.List.{List}
 use lib.Dec.{ltb}
 use lib.ListN.{length}
 use borrow.Author.Tests.{ltb-true, ltb-false}
 use Rattle.laws.specs.Count.{upto}
 use Rattle.curve.specs.declared.Piece.{Piece}
-use Rattle.book.specs.declared.Reading.{Reading}
-use Rattle.book.specs.Refusal.{SIZE, VERSION, COUNT, CUT, RANGE, TWICE, MODE, TAIL}
-use Rattle.book.specs.Field.{valueAt, refusedAt, gotAt, judged, readAt, fieldOf, ruleOf}
-use Rattle.book.specs.Format.{headerOf, rollbackRead, requestedResource, requestedRollback, requestRead, unheldRead, heldResource, entryRead, entryNext, heldRead, startRead, signedRead, pieceRead, pieceNext, piecesRead, endRead, curveRead, recordRead, tailRead}
+use Rattle.cursor.specs.declared.Reading.{Reading}
+use Rattle.cursor.specs.Refusal.{SIZE, VERSION, COUNT, CUT, RANGE, TWICE, MODE, TAIL}
+use Rattle.cursor.specs.Field.{valueAt, refusedAt, gotAt, judged, readAt, fieldOf, ruleOf}
+use Rattle.cursor.specs.Outcome.{by-test}
+use Rattle.cursor.specs.Header.{headerOf}
+use Rattle.book.specs.Format.{rollbackRead, requestedResource, requestedRollback, requestRead, unheldRead, heldResource, entryRead, entryNext, heldRead, startRead, signedRead, pieceRead, pieceNext, piecesRead, endRead, curveRead, recordRead, tailRead}
 
 -- from r on to o, neither refused
 pub record Ahead (s : List ℕ) (r o : Reading) : Type 0 where
@@ -22,11 +24,6 @@ pub record Ahead (s : List ℕ) (r o : Reading) : Type 0 where
 
 pub record Onward (s : List ℕ) (r o : Reading) : Type 0 where
   pub ahead : o .number ≡ 0 → Ahead s r o
-
--- one of two, by a test
-pub by-test : {A : Type 0} (b : Bool) (x y : A) (P : A → Type 0) → (b ≡ true → P x) → (b ≡ false → P y) → P (cond b x y)
-by-test true x y P f g = f refl
-by-test false x y P f g = g refl
 
 module _ (s : List ℕ) where
   refused-on : (r : Reading) (number place : ℕ) → 0 < number → Onward s r (refusedAt number place)

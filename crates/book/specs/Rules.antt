@@ -1,4 +1,4 @@
--- The rules of 01's "The job book" that are more than a range of one field. Assumes nothing.
+-- The rules of 01's "The job book" that are more than a range of one field.
 use Prim.Native.Nat.{ℕ, _+_, _-_}
 use mathlib.Core.Bool.{Bool, true, false, cond}
 use lib.Dec.{ltb, leb, eqb}

@@ -1,4 +1,4 @@
--- Every book has 32 places for records, a refused one too. Assumes nothing.
+-- Every book has 32 places for records, a refused one too.
 use Prim.Native.Nat.{ℕ, zero, suc}
 use mathlib.Core.Path.{_≡_, _∙_}
 use mathlib.Core.Bool.{Bool, true, false, cond}
@@ -6,10 +6,11 @@ use mathlib.Core.List.{List}
 use lib.Dec.{ltb}
 use lib.ListN.{length, length-set, length-replicate}
 use Rattle.laws.specs.Count.{upto}
-use Rattle.book.specs.declared.Reading.{Reading}
-use Rattle.book.specs.declared.Header.{Header}
+use Rattle.cursor.specs.declared.Reading.{Reading}
+use Rattle.cursor.specs.declared.Header.{Header}
 use Rattle.book.specs.declared.reader.Records.{Records}
-use Rattle.book.specs.Format.{headerOf, noRecord, recordNext, noRecords, recordsRead, tailRead, acceptedBook, refusedBook, bookOf}
+use Rattle.cursor.specs.Header.{headerOf}
+use Rattle.book.specs.Format.{noRecord, recordNext, noRecords, recordsRead, tailRead, acceptedBook, refusedBook, bookOf}
 
 read-size : (s : List ℕ) (resources : ℕ) (r : Reading) (jobs : ℕ) → length (upto (recordNext s resources) jobs (noRecords r) .records) ≡ 32
 unfolding upto recordNext noRecords

@@ -1,4 +1,4 @@
--- Every span that the reader gives lies inside the book, so that a part may be cut there. Assumes nothing.
+-- Every span that the reader gives lies inside the book, so that a part may be cut there.
 use Prim.Native.Nat.{ℕ, zero, suc, zero-le, _≤_}
 use native.Mathlib.Omega.{arith}
 use mathlib.Core.Path.{_≡_}
@@ -11,9 +11,11 @@ use Rattle.book.specs.declared.Span.{Span}
 use Rattle.book.specs.declared.Book.{Book}
 use Rattle.book.specs.declared.reader.Records.{Records}
 use Rattle.book.specs.declared.question.Found.{Found}
-use Rattle.book.specs.Format.{headerOf, recordRead, noSpan, recordNext, noRecords, recordsRead, tailRead, acceptedBook, refusedBook, bookOf}
+use Rattle.cursor.specs.Outcome.{by-test}
+use Rattle.cursor.specs.Header.{headerOf}
+use Rattle.book.specs.Format.{recordRead, noSpan, recordNext, noRecords, recordsRead, tailRead, acceptedBook, refusedBook, bookOf}
 use Rattle.book.specs.Question.{foundIn}
-use Rattle.book.specs.Onward.{Ahead, Onward, by-test, header-on, record-on, tail-on}
+use Rattle.book.specs.Onward.{Ahead, Onward, header-on, record-on, tail-on}
 
 -- a span of a book of n bytes
 pub record Spanned (n start end : ℕ) : Type 0 where

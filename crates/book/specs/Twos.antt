@@ -1,4 +1,4 @@
--- What the bits of a signed field stand for fits the width that they have. Assumes nothing.
+-- What the bits of a signed field stand for fits the width that they have.
 use Prim.Native.Nat.{ℕ, suc, _+_, _-_, _<_, _≤_, _^_}
 use native.Mathlib.Omega.{arith}
 use mathlib.Core.Path.{_≡_}

@@ -2,15 +2,15 @@
 ghost use mathlib.Core.Path.{_≡_};
 ghost use Prim.Native.Nat.{_≤_};
 ghost use lib.ListN.{getD, set};
-ghost use Rattle.book.specs.Field.{Is};
+ghost use Rattle.cursor.specs.Field.{Is};
 ghost use Rattle.book.specs.Format.{unheldRead, heldResource, entryRead, heldRead};
 use crate::Entry;
-use crate::Reading;
-use crate::field::RANGE;
-use crate::field::TWICE;
-use crate::field::field;
-use crate::field::rule;
 use crate::rules::least_rollback;
+use cursor::Reading;
+use cursor::field::RANGE;
+use cursor::field::TWICE;
+use cursor::field::field;
+use cursor::field::rule;
 
 pub struct EntryRead {
     pub reading: Reading,

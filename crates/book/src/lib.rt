@@ -2,30 +2,12 @@
 use curve::Curve;
 use job::Request;
 
-pub mod field; // field.rt: one field, and one further rule
 pub mod rules; // rules.rt: the rules that are more than a range
 pub mod request; // request.rt: rollback times and the request
 pub mod held; // held.rt: the held list
 pub mod pieces; // pieces.rt: the curve
-pub mod reader; // reader.rt: header, records, the whole book
-pub mod cursor; // cursor.rt: the book and the reader's place together
+pub mod reader; // reader.rt: records, the whole book
 pub mod question; // question.rt: one job's record as a part of the book
-
-// Where the reader stands. number: 0, or the refusal's. place: the last field's first byte, or the refusal's place.
-// next: the byte after the last field. value: the last field's value.
-pub struct Reading {
-    pub number: u8,
-    pub place: usize,
-    pub next: usize,
-    pub value: usize,
-}
-
-pub struct Header {
-    pub reading: Reading,
-    pub jobs: usize,
-    pub resources: usize,
-    pub now: usize,
-}
 
 // One line of a held list.
 pub struct Entry {

@@ -1,15 +1,15 @@
 // The curve of a job.
 ghost use mathlib.Core.Path.{_≡_};
-ghost use Rattle.book.specs.Field.{Is};
+ghost use Rattle.cursor.specs.Field.{Is};
 ghost use Rattle.book.specs.Format.{startRead, signedRead, pieceRead, piecesRead, endRead, curveRead};
-use crate::Reading;
-use crate::field::RANGE;
-use crate::field::field;
-use crate::field::rule;
 use crate::rules::around_ok;
 use crate::rules::less;
 use crate::rules::line_ok;
 use crate::rules::piece_from;
+use cursor::Reading;
+use cursor::field::RANGE;
+use cursor::field::field;
+use cursor::field::rule;
 use curve::Curve;
 use curve::Piece;
 

@@ -1,9 +1,9 @@
 // The record question: one job's record as a part of the lent book (01, "Forms for specific places").
 ghost use mathlib.Core.Path.{_≡_};
-ghost use Prim.Native.Nat.{_-_, _≤_};
-ghost use lib.ListN.{length, getD, take, drop};
+ghost use Prim.Native.Nat.{_≤_};
+ghost use lib.ListN.{length, getD};
 ghost use Rattle.book.specs.Format.{noSpan};
-ghost use Rattle.book.specs.Question.{foundIn, Answers};
+ghost use Rattle.book.specs.Question.{foundIn, partBetween, IsRecord, Answers};
 use crate::Span;
 use crate::reader::read_book;
 
@@ -60,14 +60,14 @@ pub fn find_record(s: &[u8], job: usize) -> Found
 
 fn part<'a>(s: &'a [u8], start: usize, end: usize) -> &'a [u8]
     requires { ⌜ (start ≤ end) × (end ≤ length (now s)) ⌝ }
-    ensures { λ r. ⌜ now r ≡ take (end - start) (drop start (now (s .entry))) ⌝ }
+    ensures { λ r. ⌜ r ≡ partBetween (s .entry) start end (r .name) ⌝ }
 {
     &s[start..end]
 }
 
 // One job's record as a part of the book, with the refusal beside it.
 pub fn record<'a>(s: &'a [u8], job: usize) -> RecordAnswer<'a>
-    ensures { λ r. ⌜ Answers (now (s .entry)) job (r .number) (r .place) (now (r .part)) ⌝ }
+    ensures { λ r. ⌜ Answers (s .entry) job r ⌝ }
 {
     let f = find_record(s, job);
     let p = part(s, f.start, f.end);
@@ -76,4 +76,12 @@ pub fn record<'a>(s: &'a [u8], job: usize) -> RecordAnswer<'a>
         place: f.place,
         part: p,
     }
+}
+
+// The record alone, for callers whose own parameters are plain: those need no walk.
+pub fn record_part<'a>(s: &'a [u8], job: usize) -> &'a [u8]
+    ensures { λ r. ⌜ IsRecord (s .entry) job r ⌝ }
+{
+    let answer = record(s, job);
+    answer.part
 }

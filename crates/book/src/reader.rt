@@ -1,25 +1,22 @@
-// Header, records, and the whole book.
+// Records, and the whole book.
 ghost use mathlib.Core.Path.{_≡_};
-ghost use Rattle.book.specs.Format.{Headed, noRecord, recordRead, tailRead, bookOf};
+ghost use Rattle.book.specs.Format.{noRecord, recordRead, tailRead, bookOf};
 use crate::Book;
 use crate::Entry;
-use crate::Header;
-use crate::Reading;
 use crate::Record;
 use crate::Span;
-use crate::field::COUNT;
-use crate::field::MODE;
-use crate::field::RANGE;
-use crate::field::SIZE;
-use crate::field::TAIL;
-use crate::field::VERSION;
-use crate::field::field;
-use crate::field::rule;
 use crate::held::held_read;
 use crate::pieces::curve_read;
 use crate::request::request_read;
 use crate::request::rollback_read;
 use crate::rules::mode_ok;
+use cursor::Reading;
+use cursor::field::MODE;
+use cursor::field::RANGE;
+use cursor::field::TAIL;
+use cursor::field::field;
+use cursor::field::rule;
+use cursor::head::header;
 use curve::Curve;
 use curve::Piece;
 use job::Request;
@@ -36,29 +33,6 @@ pub struct Records {
     pub records: [Record; 32],
     pub holders: [u8; 32],
     pub spans: [Span; 32],
-}
-
-fn header(s: &[u8]) -> Header
-    ensures { λ o. ⌜ Headed (now (s .entry)) o ⌝ }
-{
-    let none = Reading {
-        number: 0,
-        place: 0,
-        next: 0,
-        value: 0,
-    };
-    let least = rule(none, 9 <= s.len(), SIZE, 0);
-    let size = field(s, least, 2, s.len(), s.len(), SIZE);
-    let version = field(s, size, 1, 1, 1, VERSION);
-    let jobs = field(s, version, 1, 0, 32, COUNT);
-    let resources = field(s, jobs, 1, 0, 32, COUNT);
-    let now = field(s, resources, 4, 0, 2147483647, RANGE);
-    Header {
-        reading: now,
-        jobs: jobs.value,
-        resources: resources.value,
-        now: now.value,
-    }
 }
 
 fn record_read(s: &[u8], job: u8, resources: usize, holders: [u8; 32], r: Reading) -> RecordRead

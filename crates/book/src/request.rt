@@ -1,15 +1,15 @@
 // A job's own rollback time, and its request.
 ghost use mathlib.Core.Path.{_≡_};
 ghost use Prim.Native.Nat.{_≤_};
-ghost use Rattle.book.specs.Field.{Is};
+ghost use Rattle.cursor.specs.Field.{Is};
 ghost use Rattle.book.specs.Format.{rollbackRead, requestedResource, requestedRollback, requestRead};
-use crate::Reading;
-use crate::field::RANGE;
-use crate::field::field;
-use crate::field::rule;
 use crate::rules::if_requested;
 use crate::rules::request_ok;
 use crate::rules::rollback_ok;
+use cursor::Reading;
+use cursor::field::RANGE;
+use cursor::field::field;
+use cursor::field::rule;
 use job::Request;
 
 pub struct Requested {

@@ -1,4 +1,4 @@
--- `book::held::entry_read` meets its contract. Assumes nothing.
+-- `book::held::entry_read` meets its contract.
 use borrow.Author.Needs.{needs}
 use Rattle.book.specs.Format.{entryRead}
 use Rattle.book.proofs.held.entry_read.Statement.{statement}

@@ -1,10 +1,24 @@
--- `book::held::held_read` meets its contract. The invariant: the locals together are the state of the definition after i turns of `entryNext`. Assumes nothing.
-use Prim.Native.Nat.{_-_}
+-- `book::held::held_read` meets its contract. The invariant: the locals together are the state of the definition after i turns of `entryNext`.
+use mathlib.Core.Path.{_≡_}
+use Prim.Native.Nat.{ℕ, _-_}
+use mathlib.Core.List.{List}
+use lib.ListN.{set}
 use borrow.Author.Needs.{needs}
 use Rattle.laws.specs.Count.{Counting, count-begin, count-next, count-ended}
-use Rattle.book.specs.Format.{entryNext, heldRead}
+use Rattle.cursor.specs.declared.Reading.{Reading}
+use Rattle.book.specs.declared.Entry.{Entry}
+use Rattle.book.specs.declared.held.EntryRead.{EntryRead}
+use Rattle.book.specs.declared.held.HeldList.{HeldList}
+use Rattle.book.specs.Format.{entryRead, entryNext, heldRead}
 use Rattle.book.proofs.held.held_read.Statement.{statement}
 use Rattle.book.proofs.held.held_read.Tie as tie
+
+-- one turn of `entryNext`, said of what the code has read and noted
+module _ (s : List ℕ) (job resources run rollback i n : ℕ) (reading : Reading) (held : List Entry) (holders : List ℕ) where
+  turned : {x : EntryRead} {noted : List ℕ} → x ≡ entryRead s resources run rollback holders reading → noted ≡ set holders (x .entry .resource) job
+      → _≡_ {A = HeldList} (record { reading = x .reading; holds = n; held = set held i (x .entry); holders = noted }) (entryNext s job resources run rollback i (record { reading = reading; holds = n; held = held; holders = holders }))
+  unfolding entryNext
+  turned x noted = rw (← x, ← noted)
 
 abbrev Inv-loop : tie.InvT-loop
 Inv-loop s job resources run rollback n reading₀ held₀ owners₀ i₀ reading held owners i =
@@ -44,8 +58,9 @@ loop-less : tie.Need-loop-less Inv-loop μ-loop
 loop-less c = search needs
 
 loop-again : tie.Need-loop-again Inv-loop μ-loop
-unfolding entryNext
-loop-again c = count-next (c .before .before .before .before .before .before .loop .inv) (c .before .before .before .before .before .loop-test .taken) (rw (← c .before .before .before .before .entry-read .ensures, ← c .hold-for .ensures))
+loop-again c =
+    let l = c .before .before .before .before .before .before .loop in
+    count-next (l .inv) (c .before .before .before .before .before .loop-test .taken) (turned _ (c .before .before .before .before .before .before .before .before .before .args .job) _ _ _ _ _ (l .reading) (l .held) (l .owners) (c .before .before .before .before .entry-read .ensures) (c .hold-for .ensures))
 
 returns : tie.Need-returns Inv-loop μ-loop
 unfolding heldRead

@@ -1,4 +1,4 @@
--- `book::held::held_resource` meets its contract. Assumes nothing.
+-- `book::held::held_resource` meets its contract.
 use native.Mathlib.Omega.{arith}
 use borrow.Author.Needs.{needs}
 use Rattle.book.specs.Format.{heldResource}

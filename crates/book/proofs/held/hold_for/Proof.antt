@@ -1,4 +1,4 @@
--- `book::held::hold_for` meets its contract. Assumes nothing.
+-- `book::held::hold_for` meets its contract.
 use mathlib.Core.Path.{sym}
 use lib.Seq.{set-out}
 use borrow.Author.Needs.{needs}

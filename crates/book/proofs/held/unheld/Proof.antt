@@ -1,4 +1,4 @@
--- `book::held::unheld` meets its contract. Assumes nothing.
+-- `book::held::unheld` meets its contract.
 use borrow.Author.Needs.{needs}
 use Rattle.book.specs.Format.{unheldRead}
 use Rattle.book.proofs.held.unheld.Statement.{statement}

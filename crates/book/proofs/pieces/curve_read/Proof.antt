@@ -1,4 +1,4 @@
--- `book::pieces::curve_read` meets its contract. Assumes nothing.
+-- `book::pieces::curve_read` meets its contract.
 use borrow.Author.Needs.{needs}
 use Rattle.book.specs.Format.{curveRead}
 use Rattle.book.proofs.pieces.curve_read.Statement.{statement}

@@ -1,4 +1,4 @@
--- `book::pieces::piece_read` meets its contract. Assumes nothing.
+-- `book::pieces::piece_read` meets its contract.
 use borrow.Author.Needs.{needs}
 use Rattle.book.specs.Format.{pieceRead}
 use Rattle.book.proofs.pieces.piece_read.Statement.{statement}

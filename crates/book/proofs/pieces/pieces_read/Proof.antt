@@ -1,4 +1,4 @@
--- `book::pieces::pieces_read` meets its contract. The invariant: the locals together are the state of the definition after i turns of `pieceNext`. Assumes nothing.
+-- `book::pieces::pieces_read` meets its contract. The invariant: the locals together are the state of the definition after i turns of `pieceNext`.
 use Prim.Native.Nat.{_-_}
 use borrow.Author.Needs.{needs}
 use Rattle.laws.specs.Count.{Counting, count-begin, count-next, count-ended}

@@ -1,9 +1,24 @@
--- `book::pieces::start_read` meets its contract. Assumes nothing.
+-- `book::pieces::start_read` meets its contract.
+use mathlib.Core.Path.{_≡_}
+use Prim.Native.Nat.{ℕ, _-_}
 use native.Mathlib.Omega.{arith}
+use mathlib.Core.Bool.{Bool}
+use mathlib.Core.List.{List}
 use borrow.Author.Needs.{needs}
+use Rattle.curve.specs.declared.Piece.{Piece}
+use Rattle.cursor.specs.declared.Reading.{Reading}
+use Rattle.cursor.specs.Refusal.{RANGE}
+use Rattle.cursor.specs.Field.{fieldOf, ruleOf}
+use Rattle.book.specs.Rules.{lineOk}
 use Rattle.book.specs.Format.{startRead}
 use Rattle.book.proofs.pieces.start_read.Statement.{statement}
 use Rattle.book.proofs.pieces.start_read.Tie as tie
+
+-- the lines of `startRead`, each said of what the code has read by then
+module _ (s : List ℕ) (low : ℕ) (last : Piece) (r : Reading) where
+  made : {a o : Reading} {end : ℕ} {ok : Bool} → a ≡ fieldOf s 4 low 2147483647 RANGE r → end ≡ a .value - 1 → ok ≡ lineOk last end → o ≡ ruleOf ok RANGE (a .place) a → o ≡ startRead s low last r
+  unfolding startRead
+  made a end ok o = rw (← a, ← end, ← ok) o
 
 field-requires : tie.Need-field-requires
 field-requires c κs = search needs
@@ -21,8 +36,10 @@ rule-requires : tie.Need-rule-requires
 rule-requires c κs = search needs
 
 returns : tie.Need-returns
-unfolding startRead
-returns c = record { is = rw (← c .before .before .before .field .ensures .is, ← c .before .before .less .ensures, ← c .before .line-ok .ensures) (c .rule .ensures .is); small = omega (arith, c .rule .ensures .small, c .before .before .before .field .ensures .small) }
+returns c = record {
+  is = made _ _ _ _ (c .before .before .before .field .ensures .is) (c .before .before .less .ensures) (c .before .line-ok .ensures) (c .rule .ensures .is);
+  small = omega (arith, c .rule .ensures .small, c .before .before .before .field .ensures .small);
+}
 
 pub start-read-spec : {M : Type 1} → statement M
 start-read-spec =

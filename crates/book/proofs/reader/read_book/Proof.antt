@@ -1,11 +1,26 @@
--- `book::reader::read_book` meets its contract. The invariant: the locals together are the state of the definition after i turns of `recordNext`. Assumes nothing.
-use Prim.Native.Nat.{_-_}
+-- `book::reader::read_book` meets its contract. The invariant: the locals together are the state of the definition after i turns of `recordNext`.
+use mathlib.Core.Path.{_≡_}
+use Prim.Native.Nat.{ℕ, _-_}
+use mathlib.Core.List.{List}
+use lib.ListN.{set}
 use borrow.Author.Tests.{lt-ltb, le-ltb}
 use borrow.Author.Needs.{needs}
 use Rattle.laws.specs.Count.{Counting, count-begin, count-next, count-ended}
-use Rattle.book.specs.Format.{recordNext, noRecords, recordsRead, acceptedBook, refusedBook, bookOf}
+use Rattle.cursor.specs.declared.Reading.{Reading}
+use Rattle.book.specs.declared.Record.{Record}
+use Rattle.book.specs.declared.Span.{Span}
+use Rattle.book.specs.declared.reader.RecordRead.{RecordRead}
+use Rattle.book.specs.declared.reader.Records.{Records}
+use Rattle.book.specs.Format.{recordRead, recordNext, noRecords, recordsRead, acceptedBook, refusedBook, bookOf}
 use Rattle.book.proofs.reader.read_book.Statement.{statement}
 use Rattle.book.proofs.reader.read_book.Tie as tie
+
+-- one turn of `recordNext`, said of what the code has read
+module _ (s : List ℕ) (resources i : ℕ) (reading : Reading) (records : List Record) (holders : List ℕ) (spans : List Span) where
+  turned : {x : RecordRead} → x ≡ recordRead s i resources holders reading
+      → _≡_ {A = Records} (record { reading = x .reading; records = set records i (x .job); holders = x .holders; spans = set spans i (record { start = reading .next; end = x .reading .next }) }) (recordNext s resources i (record { reading = reading; records = records; holders = holders; spans = spans }))
+  unfolding recordNext
+  turned x = rw (← x)
 
 abbrev Inv-loop : tie.InvT-loop
 Inv-loop s h none reading₀ records₀ holders₀ spans₀ i₀ reading records holders spans i =
@@ -51,8 +66,9 @@ loop-less : tie.Need-loop-less Inv-loop μ-loop
 loop-less c = search needs
 
 loop-again : tie.Need-loop-again Inv-loop μ-loop
-unfolding recordNext
-loop-again c = count-next (c .before .before .before .before .before .before .loop .inv) (c .before .before .before .before .if1 .taken) (rw (← c .before .before .before .record-read .ensures))
+loop-again c =
+    let l = c .before .before .before .before .before .before .loop in
+    count-next (l .inv) (c .before .before .before .before .if1 .taken) (turned _ _ _ (l .reading) (l .records) (l .holders) (l .spans) (c .before .before .before .record-read .ensures))
 
 tail-requires : tie.Need-tail-requires Inv-loop μ-loop
 tail-requires c κs = search needs

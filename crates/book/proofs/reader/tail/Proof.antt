@@ -1,4 +1,4 @@
--- `book::reader::tail` meets its contract. Assumes nothing.
+-- `book::reader::tail` meets its contract.
 use borrow.Author.Needs.{needs}
 use Rattle.book.specs.Format.{tailRead}
 use Rattle.book.proofs.reader.tail.Statement.{statement}

@@ -1,4 +1,4 @@
--- `book::request::request_read` meets its contract. Assumes nothing.
+-- `book::request::request_read` meets its contract.
 use borrow.Author.Needs.{needs}
 use Rattle.book.specs.Format.{requestRead}
 use Rattle.book.proofs.request.request_read.Statement.{statement}

@@ -1,4 +1,4 @@
--- `book::request::requested_resource` meets its contract. Assumes nothing.
+-- `book::request::requested_resource` meets its contract.
 use native.Mathlib.Omega.{arith}
 use borrow.Author.Needs.{needs}
 use Rattle.book.specs.Format.{requestedResource}

@@ -1,4 +1,4 @@
--- `book::request::rollback_read` meets its contract. Assumes nothing.
+-- `book::request::rollback_read` meets its contract.
 use native.Mathlib.Omega.{arith}
 use borrow.Author.Needs.{needs}
 use Rattle.book.specs.Format.{rollbackRead}

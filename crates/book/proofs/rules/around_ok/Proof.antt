@@ -1,4 +1,4 @@
--- `book::rules::around_ok` meets its contract. Assumes nothing.
+-- `book::rules::around_ok` meets its contract.
 use borrow.Author.Tests.{le-leb, lt-leb}
 use borrow.Author.Needs.{needs}
 use Rattle.book.specs.Rules.{aroundOk}

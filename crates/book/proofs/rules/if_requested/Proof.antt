@@ -1,4 +1,4 @@
--- `book::rules::if_requested` meets its contract. Assumes nothing.
+-- `book::rules::if_requested` meets its contract.
 use native.Mathlib.Omega.{arith}
 use borrow.Author.Tests.{eq-eqb, ne-eqb}
 use Rattle.book.specs.Rules.{ifRequested}

@@ -1,4 +1,4 @@
--- `book::rules::least_rollback` meets its contract. Assumes nothing.
+-- `book::rules::least_rollback` meets its contract.
 use borrow.Author.Tests.{eq-eqb, ne-eqb}
 use Rattle.book.specs.Rules.{leastRollback}
 use Rattle.book.proofs.rules.least_rollback.Statement.{statement}

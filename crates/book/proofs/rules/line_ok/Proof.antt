@@ -1,4 +1,4 @@
--- `book::rules::line_ok` meets its contract. Assumes nothing.
+-- `book::rules::line_ok` meets its contract.
 use mir.Syntax.{w64}
 use mir.Facts.{toZ-ofZ}
 use borrow.Author.Needs.{needs}

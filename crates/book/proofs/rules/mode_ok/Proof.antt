@@ -1,4 +1,4 @@
--- `book::rules::mode_ok` meets its contract. Assumes nothing.
+-- `book::rules::mode_ok` meets its contract.
 use borrow.Author.Tests.{eq-eqb, ne-eqb}
 use Rattle.book.specs.Rules.{modeOk}
 use Rattle.book.proofs.rules.mode_ok.Statement.{statement}

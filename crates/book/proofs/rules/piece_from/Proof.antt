@@ -1,4 +1,4 @@
--- `book::rules::piece_from` meets its contract. Assumes nothing.
+-- `book::rules::piece_from` meets its contract.
 use native.Mathlib.Omega.{arith}
 use mir.Val.{SFits}
 use mir.Syntax.{w16, w32, w64}

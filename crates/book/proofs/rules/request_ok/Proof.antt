@@ -1,4 +1,4 @@
--- `book::rules::request_ok` meets its contract. Assumes nothing.
+-- `book::rules::request_ok` meets its contract.
 use borrow.Author.Tests.{eq-eqb, ne-eqb}
 use Rattle.book.specs.Rules.{requestOk}
 use Rattle.book.proofs.rules.request_ok.Statement.{statement}

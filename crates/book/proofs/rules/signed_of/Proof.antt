@@ -1,4 +1,4 @@
--- `book::rules::signed_of` meets its contract. Assumes nothing.
+-- `book::rules::signed_of` meets its contract.
 use Prim.Native.Nat.{_+_}
 use native.Mathlib.Omega.{arith}
 use native.Mathlib.Numerals.{add-one}

@@ -1,4 +1,4 @@
--- `book::rules::within` meets its contract. Assumes nothing.
+-- `book::rules::within` meets its contract.
 use Prim.Native.Nat.{_+_}
 use native.Mathlib.Omega.{arith}
 use mathlib.Core.Path.{sym, _∙_}

@@ -1,0 +1,5 @@
+pub mod Both
+pub mod Only
+pub mod Walk
+pub mod Lent
+pub mod Operand

@@ -1,0 +1,6 @@
+pub mod Refusal
+pub mod Field
+pub mod Outcome
+pub mod Step
+pub mod Header
+pub mod Stepwise
