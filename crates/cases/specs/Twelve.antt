@@ -1,13 +1,14 @@
--- The twelve of 01, "Twelve to prove": each book as bytes, and its answer as bytes or as a refusal; and one proof over the table. Assumes nothing.
+-- The twelve of 01, "Twelve to prove": each book as bytes, and its answer as bytes or as a refusal; and one proof over the table.
 use mathlib.Core.Path.{_≡_, refl}
 use mathlib.Core.Bool.{true, false}
 use mathlib.Core.List.{List, [], _∷_, _++_, map}
 use Prim.Native.Nat.{ℕ}
 use lib.Dec.{ltb}
-use Rattle.book.specs.Refusal.{KNOT}
-use Rattle.book.specs.Field.{valueAt, judged, readAt, fieldOf, ruleOf}
+use Rattle.cursor.specs.Refusal.{KNOT}
+use Rattle.cursor.specs.Field.{valueAt, judged, readAt, fieldOf, ruleOf}
 use Rattle.book.specs.Rules.{rollbackOk, requestOk, ifRequested, leastRollback, modeOk, signedOf, aroundOk, lineOk}
-use Rattle.book.specs.Format.{headerOf, rollbackRead, requestedResource, requestedRollback, requestRead, unheldRead, heldResource, entryRead, entryNext, heldRead, startRead, signedRead, pieceRead, pieceNext, piecesRead, endRead, curveRead, recordRead, recordNext, noRecords, recordsRead, tailRead, acceptedBook, refusedBook, bookOf}
+use Rattle.cursor.specs.Header.{headerOf}
+use Rattle.book.specs.Format.{rollbackRead, requestedResource, requestedRollback, requestRead, unheldRead, heldResource, entryRead, entryNext, heldRead, startRead, signedRead, pieceRead, pieceNext, piecesRead, endRead, curveRead, recordRead, recordNext, noRecords, recordsRead, tailRead, acceptedBook, refusedBook, bookOf}
 use Rattle.job.specs.Job.{granted, ran, rolledBack}
 use Rattle.curve.specs.Worth.{worthIn, worthAt}
 use Rattle.curve.specs.Density.{denserThan}

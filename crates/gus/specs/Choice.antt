@@ -1,4 +1,4 @@
--- The choice of a mode (VI.5, with line 31 read as 01 says). Assumes nothing.
+-- The choice of a mode (VI.5, with line 31 read as 01 says).
 use mathlib.Core.Bool.{Bool, true, false}
 use mathlib.Core.List.{List, [], _∷_}
 use Prim.Native.Nat.{ℕ}

@@ -1,4 +1,4 @@
--- Time and utility along a row of jobs, in either mode. Assumes nothing.
+-- Time and utility along a row of jobs, in either mode.
 use mathlib.Core.Bool.{Bool, true, false}
 use Prim.Native.Nat.{ℕ, _+_}
 use lib.IntN.{ℤ, pos, _+ℤ_}

@@ -1,4 +1,4 @@
--- Worked examples: cases 5, 9, 11 and 12 of 01, computed. Assumes nothing.
+-- Worked examples: cases 2 and 5 to 12 of 01, and a circle that job 0 is not on, computed.
 use mathlib.Core.Path.{_≡_, refl}
 use mathlib.Core.Bool.{true, false}
 use mathlib.Core.List.{List, [], _∷_, _++_}
@@ -13,6 +13,7 @@ use Rattle.job.specs.declared.Job.{Job}
 use Rattle.job.specs.Times.{never}
 use Rattle.job.specs.Held.{free}
 use Rattle.job.specs.Job.{noRequest, granted, ran, rolledBack}
+use Rattle.gus.specs.declared.Part.{Part}
 use Rattle.gus.specs.State.{vacant, afterAll}
 use Rattle.gus.specs.Waits.{holderFrom, chainTo, chainOf}
 use Rattle.gus.specs.View.{Pay, viewOf}
@@ -42,33 +43,57 @@ flat worths i t = pos (getD worths i 0)
 abbrev book : List Job → List Job
 book js = js ++ replicate 28 vacant
 
-abbrev five : List Job
-five = book (job 6 2 noRequest (holding 0 6 2 none) ∷ job 5 1 (asking 0 5 1) none ∷ [])
+-- by flat curves of these worths, the answer to these jobs at the moment 0: victims, parts, rounds, total and end
+abbrev Plans : List ℕ → List Job → List ℕ → List Part → ℕ → ℕ → ℕ → Type 0
+Plans worths js victims parts rounds total end =
+    answerOf (flat worths) (book js) 0 ≡ record { victims = victims; plan = record { parts = parts; rounds = rounds; total = pos total; end = end } }
 
-case5 : answerOf (flat (0 ∷ 22 ∷ [])) five 0 ≡ record { victims = []; plan = record { parts = partOf 0 true 2 ∷ partOf 1 false 5 ∷ []; rounds = 1; total = pos 22; end = 7 } }
-unfolding answerBy victimsOf victimsTo victimOf offer lesser lossOf circleOf circleFrom settled rounds bestOf consider better groupOf grow toFree byDensity reckon reckonOne toEnd denser denserThan passed credited chainOf chainTo holderFrom afterAll upto granted ran rolledBack
-case5 = refl
+abbrev two : List Job
+two = job 10 1 noRequest none ∷ job 4 1 noRequest none ∷ []
 
-abbrev nine : ℕ → ℕ → List Job
-nine one two = book (job 10 one (asking 1 4 1) (holding 0 10 one none) ∷ job 10 two (asking 0 4 1) (holding 1 10 two none) ∷ [])
+-- cases 5 to 7, by job 0's run time left and rollback time
+abbrev five : ℕ → ℕ → List Job
+five run rollback = job run rollback noRequest (holding 0 6 rollback none) ∷ job 5 1 (asking 0 5 1) none ∷ []
 
-case9 : answerOf (flat (50 ∷ 20 ∷ [])) (nine 3 3) 0 ≡ record { victims = 1 ∷ []; plan = record { parts = partOf 1 true 3 ∷ partOf 0 false 10 ∷ []; rounds = 1; total = pos 50; end = 13 } }
-unfolding answerBy victimsOf victimsTo victimOf offer lesser lossOf circleOf circleFrom settled rounds bestOf consider better groupOf grow toFree byDensity reckon reckonOne toEnd denser denserThan passed credited chainOf chainTo holderFrom afterAll upto granted ran rolledBack
-case9 = refl
+abbrev eight : List Job
+eight = job 12 never noRequest (holding 0 3 never (holding 1 8 never none)) ∷ job 2 1 (asking 1 2 1) none ∷ []
 
-case11 : knotOf (viewOf (flat (50 ∷ 20 ∷ [])) (nine never never)) 0 ≡ 0
-unfolding knotOf knotTo victimOf offer lesser lossOf circleOf circleFrom denser denserThan holderFrom upto
-case11 = refl
+-- cases 9 to 11, by each job's rollback time and that of its request
+abbrev nine : ℕ → ℕ → ℕ → ℕ → List Job
+nine own asked other otherasked = job 10 own (asking 1 4 asked) (holding 0 10 own none) ∷ job 10 other (asking 0 4 otherasked) (holding 1 10 other none) ∷ []
 
 abbrev twelve : List Job
 twelve =
-    book
-    (job 2 never noRequest (holding 0 2 never none)
+    job 2 never noRequest (holding 0 2 never none)
     ∷ job 9 never (asking 0 9 never) (holding 1 3 never none)
     ∷ job 1 never (asking 1 1 never) none
     ∷ job 1 never (asking 0 1 never) none
-    ∷ [])
+    ∷ []
 
-case12 : answerOf (flat (0 ∷ 5 ∷ 60 ∷ 5 ∷ [])) twelve 0 ≡ record { victims = []; plan = record { parts = partOf 0 false 2 ∷ partOf 1 false 3 ∷ partOf 2 false 1 ∷ partOf 1 false 6 ∷ partOf 3 false 1 ∷ []; rounds = 2; total = pos 70; end = 13 } }
-unfolding answerBy victimsOf victimsTo victimOf offer lesser lossOf circleOf circleFrom settled rounds bestOf consider better groupOf grow toFree byDensity reckon reckonOne toEnd denser denserThan passed credited chainOf chainTo holderFrom afterAll upto granted ran rolledBack
-case12 = refl
+record Cases : Type 0 where
+  case2 : Plans (50 ∷ 40 ∷ []) two [] (partOf 1 false 4 ∷ partOf 0 false 10 ∷ []) 2 90 14
+  case5 : Plans (0 ∷ 22 ∷ []) (five 6 2) [] (partOf 0 true 2 ∷ partOf 1 false 5 ∷ []) 1 22 7
+  case6 : Plans (30 ∷ 22 ∷ []) (five 20 1) [] (partOf 0 false 6 ∷ partOf 1 false 5 ∷ partOf 0 false 14 ∷ []) 2 52 25
+  case7 : Plans (0 ∷ 22 ∷ []) (five 6 6) [] (partOf 0 false 6 ∷ partOf 1 false 5 ∷ []) 1 22 11
+  case8 : Plans (0 ∷ 10 ∷ []) eight [] (partOf 0 false 8 ∷ partOf 1 false 2 ∷ []) 1 10 10
+  case9 : Plans (50 ∷ 20 ∷ []) (nine 3 1 3 1) (1 ∷ []) (partOf 1 true 3 ∷ partOf 0 false 10 ∷ []) 1 50 13
+  case10 : Plans (50 ∷ 20 ∷ []) (nine 3 1 never never) (0 ∷ []) (partOf 0 true 3 ∷ partOf 1 false 10 ∷ []) 1 20 13
+  case11 : knotOf (viewOf (flat (50 ∷ 20 ∷ [])) (book (nine never never never never))) 0 ≡ 0
+  case12 : Plans (0 ∷ 5 ∷ 60 ∷ 5 ∷ []) twelve [] (partOf 0 false 2 ∷ partOf 1 false 3 ∷ partOf 2 false 1 ∷ partOf 1 false 6 ∷ partOf 3 false 1 ∷ []) 2 70 13
+  -- the victims of case 9 behind a job that waits for nobody
+  behind-job-0 : victimsOf (viewOf (flat (7 ∷ 50 ∷ 20 ∷ [])) (book (job 1 1 noRequest none ∷ nine 3 1 3 1))) 0 ≡ 2 ∷ []
+
+cases : Cases
+unfolding answerBy victimsOf victimsTo victimOf offer lesser lossOf circleOf circleFrom knotOf knotTo settled rounds bestOf consider better groupOf grow toFree byDensity reckon reckonOne toEnd denser denserThan passed credited chainOf chainTo holderFrom afterAll upto granted ran rolledBack
+cases = record {
+  case2 = refl;
+  case5 = refl;
+  case6 = refl;
+  case7 = refl;
+  case8 = refl;
+  case9 = refl;
+  case10 = refl;
+  case11 = refl;
+  case12 = refl;
+  behind-job-0 = refl;
+}

@@ -1,4 +1,4 @@
--- The group of a job: the parts along its chain (VI.3), for any way of choosing a mode. Assumes nothing.
+-- The group of a job: the parts along its chain (VI.3), for any way of choosing a mode.
 use mathlib.Core.Bool.{Bool, true, false}
 use mathlib.Core.List.{List, [], _∷_}
 use Prim.Native.Nat.{ℕ}

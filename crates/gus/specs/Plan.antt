@@ -1,4 +1,4 @@
--- The whole answer from the jobs at the moment now: a knot, or the victims and the plan. Assumes nothing.
+-- The whole answer from the jobs at the moment now: a knot, or the victims and the plan.
 use mathlib.Core.List.{List}
 use Prim.Native.Nat.{ℕ}
 use Rattle.job.specs.declared.Job.{Job}

@@ -1,4 +1,4 @@
--- The rounds (VI.1), for any way of choosing a mode. Assumes nothing.
+-- The rounds (VI.1), for any way of choosing a mode.
 use mathlib.Core.Bool.{Bool, true, false}
 use mathlib.Core.List.{List, [], _++_}
 use Prim.Native.Nat.{ℕ, zero, suc, _+_}

@@ -1,4 +1,4 @@
--- The jobs by number, and what a row of parts does to them (VI.4 with 01's rulings: `worked` of crate job). Assumes nothing.
+-- The jobs by number, and what a row of parts does to them (VI.4 with 01's rulings: `worked` of crate job).
 use mathlib.Core.Bool.{false}
 use mathlib.Core.List.{List, [], _∷_}
 use Prim.Native.Nat.{ℕ}

@@ -1,4 +1,4 @@
--- Wait circles and their victims (V.1, with 01's loss). Assumes nothing.
+-- Wait circles and their victims (V.1, with 01's loss).
 use mathlib.Core.Bool.{true, false}
 use mathlib.Core.List.{List, [], _∷_, _++_}
 use Prim.Native.Nat.{ℕ, zero, suc, _+_, min}

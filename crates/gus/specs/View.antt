@@ -1,4 +1,4 @@
--- What a round asks of the jobs, each by its number, however they are laid out. Assumes nothing.
+-- What a round asks of the jobs, each by its number, however they are laid out.
 use mathlib.Core.Bool.{Bool}
 use mathlib.Core.List.{List}
 use Prim.Native.Nat.{ℕ}

@@ -1,4 +1,4 @@
--- Who waits for whom: "A job waits for the holder of what it requests." Assumes nothing.
+-- Who waits for whom: "A job waits for the holder of what it requests."
 use mathlib.Core.Bool.{true, false}
 use mathlib.Core.List.{List, [], _∷_}
 use Prim.Native.Nat.{ℕ, zero, suc}

@@ -1,7 +1,6 @@
 -- An array of structs that is a field of a struct: there it stands as the list of the structs' tuples, and by itself as the list of the structs. What the one relation says, the other says.
 --     inner-val        the field's machine value
 --     inner-is, outer-is       from the field's relation to the array's own, and back, at any machine values
--- Assumes nothing.
 use mathlib.Core.Path.{sym, _∙_}
 use mathlib.Core.List.{List, [], _∷_, map}
 use Prim.Native.Nat.{ℕ}

@@ -1,9 +1,9 @@
--- The answer's bytes (01, "The answer"). Assumes nothing.
+-- The answer's bytes (01, "The answer").
 use mathlib.Core.Bool.{cond}
 use mathlib.Core.List.{List, [], _∷_, _++_}
 use Prim.Native.Nat.{ℕ, _+_, _-_, _*_, _/_, _%_}
 use lib.IntN.{ℤ}
-use lib.ListN.{length, take, drop}
+use lib.ListN.{take}
 use Rattle.laws.specs.Signed.{up, dn}
 use Rattle.gus.specs.declared.Part.{Part}
 use Rattle.planner.specs.declared.Planned.{Planned}
@@ -34,7 +34,3 @@ answerBytes p =
     ++ (1 ∷ p .victimcount ∷ take (p .victimcount) (p .victims))
     ++ (p .count ∷ partsBytes (take (p .count) (p .parts)))
     ++ (p .rounds ∷ four (bits (p .total)) ++ four (p .end))
-
--- a row at the start of what was lent; "Later output bytes keep their values", and "records after the last part keep theirs"
-unfoldable pub over : {A : Type 0} → List A → List A → List A
-over row out = row ++ drop (length row) out

@@ -1,14 +1,16 @@
--- What the public calls answer, verdict and lent bytes together (01, "The answer", "What a refusal says"). Assumes nothing.
+-- What the public calls answer, verdict and lent bytes together (01, "The answer", "What a refusal says").
 use mathlib.Core.Bool.{true, false}
 use mathlib.Core.List.{List}
 use Prim.Native.Nat.{ℕ, _+_, _*_, _%_}
 use lib.Dec.{ltb}
 use lib.ListN.{length}
+use Rattle.laws.specs.Stores.{over}
+use Rattle.cursor.specs.Refusal.{ROOM}
 use Rattle.book.specs.declared.question.Found.{Found}
 use Rattle.planner.specs.declared.Planned.{Planned}
 use Rattle.planner.specs.Planned.{plannedOf}
 use Rattle.ilhuepatl.specs.declared.Verdict.{Verdict}
-use Rattle.ilhuepatl.specs.Answer.{answerBytes, over}
+use Rattle.ilhuepatl.specs.Answer.{answerBytes}
 
 pub record Outcome : Type 0 where
   pub verdict : Verdict
@@ -29,7 +31,7 @@ byPlan p out =
 unfoldable pub outcomeOf : List ℕ → List ℕ → Outcome
 outcomeOf book out =
     elim (ltb (length out) 430) [
-      | true ↦ record { verdict = verdictOf 1 0; out = out }
+      | true ↦ record { verdict = verdictOf ROOM 0; out = out }
       | false ↦ byPlan (plannedOf book) out
     ]
 

@@ -1,4 +1,4 @@
--- Answers of 01's cases in bytes, computed; totals below zero; and an output that is longer than its answer. Assumes nothing.
+-- Answers of 01's cases in bytes, computed, and totals below zero.
 use mathlib.Core.Bool.{true, false}
 use mathlib.Core.List.{List, [], _∷_, _++_}
 use mathlib.Core.Path.{_≡_, refl}
@@ -8,7 +8,7 @@ use lib.ListN.{length, replicate}
 use Rattle.gus.specs.declared.Part.{Part}
 use Rattle.gus.specs.Group.{partOf}
 use Rattle.planner.specs.declared.Planned.{Planned}
-use Rattle.ilhuepatl.specs.Answer.{two, four, bits, partBytes, partsBytes, answerBytes, over}
+use Rattle.ilhuepatl.specs.Answer.{two, four, bits, partBytes, partsBytes, answerBytes}
 
 abbrev planned : List ℕ → List Part → ℕ → ℤ → ℕ → Planned
 planned victims parts rounds total end =
@@ -45,7 +45,3 @@ minus-two = refl
 least : four (bits (negsuc 2147483647)) ≡ 128 ∷ 0 ∷ 0 ∷ 0 ∷ []
 unfolding four bits
 least = refl
-
-later-bytes : over {A = ℕ} (1 ∷ 2 ∷ []) (9 ∷ 9 ∷ 7 ∷ 8 ∷ []) ≡ 1 ∷ 2 ∷ 7 ∷ 8 ∷ []
-unfolding over
-later-bytes = refl

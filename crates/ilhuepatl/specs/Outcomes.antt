@@ -1,26 +1,28 @@
--- The three ways a call ends: no room, a refusal, an answer. Assumes nothing.
+-- The three ways a call ends: no room, a refusal, an answer.
 use mathlib.Core.Path.{_≡_, sym, ap, _∙_}
 use mathlib.Core.Bool.{Bool, true, false}
 use mathlib.Core.List.{List}
 use Prim.Native.Nat.{ℕ, _+_, _*_, _%_, _<_, _≤_}
 use lib.ListN.{length}
 use borrow.Author.Tests.{lt-ltb, le-ltb}
+use Rattle.laws.specs.Stores.{over}
+use Rattle.cursor.specs.Refusal.{ROOM}
 use Rattle.book.specs.declared.question.Found.{Found}
 use Rattle.planner.specs.declared.Planned.{Planned}
 use Rattle.planner.specs.Planned.{plannedOf}
 use Rattle.ilhuepatl.specs.declared.Verdict.{Verdict}
-use Rattle.ilhuepatl.specs.Answer.{answerBytes, over}
+use Rattle.ilhuepatl.specs.Answer.{answerBytes}
 use Rattle.ilhuepatl.specs.Calls.{Outcome, verdictOf, byPlan, outcomeOf, word, recordWord}
 
 -- with room the plan decides
 room : (book out : List ℕ) → 430 ≤ length out → {p : Planned} → p ≡ plannedOf book → byPlan p out ≡ outcomeOf book out
 unfolding outcomeOf
-room book out h e = ap (λ (x : Planned). byPlan x out) e ∙ sym (ap (λ (b : Bool). elim b as (λ _. Outcome) [ true ↦ record { verdict = verdictOf 1 0; out = out } | false ↦ byPlan (plannedOf book) out ]) (le-ltb (length out) 430 h))
+room book out h e = ap (λ (x : Planned). byPlan x out) e ∙ sym (ap (λ (b : Bool). elim b as (λ _. Outcome) [ true ↦ record { verdict = verdictOf ROOM 0; out = out } | false ↦ byPlan (plannedOf book) out ]) (le-ltb (length out) 430 h))
 
 module _ (book out : List ℕ) {v : Verdict} where
-  pub no-room : length out < 430 → v ≡ verdictOf 1 0 → record { verdict = v; out = out } ≡ outcomeOf book out
+  pub no-room : length out < 430 → v ≡ verdictOf ROOM 0 → record { verdict = v; out = out } ≡ outcomeOf book out
   unfolding outcomeOf
-  no-room h e = ap (λ (x : Verdict). record { verdict = x; out = out }) e ∙ sym (ap (λ (b : Bool). elim b as (λ _. Outcome) [ true ↦ record { verdict = verdictOf 1 0; out = out } | false ↦ byPlan (plannedOf book) out ]) (lt-ltb (length out) 430 h))
+  no-room h e = ap (λ (x : Verdict). record { verdict = x; out = out }) e ∙ sym (ap (λ (b : Bool). elim b as (λ _. Outcome) [ true ↦ record { verdict = verdictOf ROOM 0; out = out } | false ↦ byPlan (plannedOf book) out ]) (lt-ltb (length out) 430 h))
 
   module _ (h : 430 ≤ length out) {p : Planned} (e : p ≡ plannedOf book) where
     pub refused : 0 < p .number → v ≡ verdictOf (p .number) (p .place) → record { verdict = v; out = out } ≡ outcomeOf book out

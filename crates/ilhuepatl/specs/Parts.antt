@@ -7,7 +7,7 @@ use lib.ListN.{length, length-append}
 use Rattle.gus.specs.declared.Part.{Part}
 use Rattle.ilhuepatl.specs.Answer.{two, partBytes, partsBytes}
 
-part-length : (p : Part) → length (partBytes p) ≡ 4
+pub part-length : (p : Part) → length (partBytes p) ≡ 4
 unfolding partBytes two
 part-length p = refl
 

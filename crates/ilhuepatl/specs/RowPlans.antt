@@ -7,14 +7,14 @@ use native.Mathlib.Omega.{arith}
 use lib.Dec.{ltb}
 use lib.ListN.{length, take, replicate}
 use borrow.Author.Tests.{lt-ltb, le-ltb, ltb-false}
-use Rattle.book.specs.Refusal.{ROOM}
+use Rattle.cursor.specs.Refusal.{ROOM}
 use Rattle.gus.specs.declared.Part.{Part}
 use Rattle.planner.specs.declared.Planned.{Planned}
 use Rattle.planner.specs.LaidOut.{emptyPart}
 use Rattle.planner.specs.Planned.{plannedOf}
 use Rattle.planner.specs.Counted.{counted}
 use Rattle.ilhuepatl.specs.declared.row.RowPlan.{RowPlan}
-use Rattle.ilhuepatl.specs.Answer.{over}
+use Rattle.laws.specs.Stores.{over}
 use Rattle.ilhuepatl.specs.Rows.{RowOutcome, refusedAnswer, otherFields, byPlan, rowOutcomeOf}
 
 -- a refusal puts no part into the row

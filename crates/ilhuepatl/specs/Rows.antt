@@ -1,16 +1,16 @@
--- What the call with a lent row answers, its fields by value and the row together (01, "The answer", "What a refusal says"). Assumes nothing.
+-- What the call with a lent row answers, its fields by value and the row together (01, "The answer", "What a refusal says").
 use mathlib.Core.Bool.{true, false}
 use mathlib.Core.List.{List}
 use Prim.Native.Nat.{ℕ}
 use lib.Dec.{ltb}
 use lib.IntN.{pos}
 use lib.ListN.{length, take, replicate}
-use Rattle.book.specs.Refusal.{ROOM}
+use Rattle.cursor.specs.Refusal.{ROOM}
 use Rattle.gus.specs.declared.Part.{Part}
 use Rattle.planner.specs.declared.Planned.{Planned}
 use Rattle.planner.specs.Planned.{plannedOf}
 use Rattle.ilhuepatl.specs.declared.row.RowAnswer.{RowAnswer}
-use Rattle.ilhuepatl.specs.Answer.{over}
+use Rattle.laws.specs.Stores.{over}
 
 pub record RowOutcome : Type 0 where
   pub answer : RowAnswer

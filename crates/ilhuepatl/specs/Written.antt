@@ -7,9 +7,9 @@ use lib.IntN.{ℤ}
 use lib.ListN.{length, take, length-append}
 use lib.Seq.{sets}
 use Rattle.planner.specs.declared.Planned.{Planned}
-use Rattle.ilhuepatl.specs.Answer.{two, four, bits, partsBytes, answerBytes, over}
+use Rattle.ilhuepatl.specs.Answer.{two, four, bits, partsBytes, answerBytes}
 use Rattle.ilhuepatl.specs.Length.{Within, two-length, victims-length, taken-length, answer-fits}
-use Rattle.ilhuepatl.specs.Stores.{then-sets, over-sets}
+use Rattle.laws.specs.Stores.{over, then-sets, over-sets}
 
 module _ (p : Planned) where
   abbrev size : List ℕ

@@ -4,8 +4,7 @@ ghost use Rattle.book.specs.Question.{foundIn};
 ghost use Rattle.ilhuepatl.specs.Calls.{verdictOf, outcomeOf, word, recordWord};
 use crate::Verdict;
 use crate::answer::put_answer;
-
-pub(crate) const ROOM: u8 = 1;
+use cursor::field::ROOM;
 
 fn verdict(number: u8, place: usize) -> Verdict
     ensures { λ r. ⌜ r ≡ verdictOf number place ⌝ }

@@ -5,10 +5,10 @@ ghost use Prim.Native.Nat.{_<_, _≤_};
 ghost use lib.ListN.{length, getD, take, replicate};
 ghost use Rattle.gus.specs.Group.{partOf};
 ghost use Rattle.planner.specs.LaidOut.{emptyPart};
-ghost use Rattle.ilhuepatl.specs.Answer.{over};
+ghost use Rattle.laws.specs.Stores.{over};
 ghost use Rattle.ilhuepatl.specs.Rows.{rowOutcomeOf};
 ghost use Rattle.ilhuepatl.specs.RowPlans.{refusedRow, plannedRow, rowPlanOf};
-use crate::calls::ROOM;
+use cursor::field::ROOM;
 use gus::Part;
 use planner::Planned;
 

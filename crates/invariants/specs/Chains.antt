@@ -1,10 +1,9 @@
 -- Without circles the chain of a job that is left is a chain: each holds what the next asks for, all are left, all are different.
-use Prim.Native.Nat.{ℕ, zero, suc, _+_, _<_, _≤_}
+use Prim.Native.Nat.{ℕ, zero, suc, _<_, _≤_}
 use native.Mathlib.Omega.{arith}
 use mathlib.Core.Path.{_≡_, refl, _∙_}
 use mathlib.Core.Logic.{_≢_, inl, inr}
 use mathlib.Core.List.{List, [], _∷_}
-use lib.ListN.{length}
 use borrow.Author.Tests.{lt-leb, le-leb}
 use Rattle.laws.specs.Search.{lt-or-le}
 use Rattle.laws.specs.Walk.{follow, follow-zero, follow-in, follow-last, step-in}
@@ -39,38 +38,6 @@ module _ (waits : ℕ → ℕ) where
   on : (n i : ℕ) (chain : List ℕ) → i < 32 → chainTo waits (suc n) i chain ≡ chainTo waits n (waits i) (i ∷ chain)
   unfolding chainTo
   on n i chain l = rw (lt-leb 32 i l, chainTo)
-
-  -- at most one job a turn
-  chain-to-length : (n i : ℕ) (chain : List ℕ) → length (chainTo waits n i chain) ≤ n + length chain
-  unfolding chainTo
-  chain-to-length zero i chain = omega arith
-  chain-to-length (suc n) i chain = elim (lt-or-le i 32) [
-    | inl l ↦ rw (lt-leb 32 i l, chainTo) (omega (arith, chain-to-length n (waits i) (i ∷ chain)))
-    | inr l ↦ rw (le-leb 32 i l, chainTo) (omega arith)
-  ]
-
-  pub chain-length : (i : ℕ) → length (chainOf waits i) ≤ 32
-  unfolding chainOf
-  chain-length i = omega (arith, chain-to-length 32 i [])
-
--- the last of a list, d where it is empty
-abbrev pub lastOf : ℕ → List ℕ → ℕ
-lastOf d [] = d
-lastOf d (k ∷ ks) = lastOf k ks
-
--- the chain of i ends in i
-module _ (waits : ℕ → ℕ) (d : ℕ) where
-  last-to : (n i k : ℕ) (ks : List ℕ) → lastOf d (chainTo waits n i (k ∷ ks)) ≡ lastOf k ks
-  unfolding chainTo
-  last-to zero i k ks = refl
-  last-to (suc n) i k ks = elim (lt-or-le i 32) [
-    | inl l ↦ rw (lt-leb 32 i l, chainTo) (last-to n (waits i) i (k ∷ ks))
-    | inr l ↦ rw (le-leb 32 i l, chainTo)
-  ]
-
-  pub chain-last : (i : ℕ) → i < 32 → lastOf d (chainOf waits i) ≡ i
-  unfolding chainOf
-  chain-last i l = rw (on waits 31 i [] l) (last-to 31 (waits i) i [])
 
 -- each of ks comes to i by one step or more
 abbrev ComeTo : (ℕ → ℕ) → ℕ → List ℕ → Type 0

@@ -2,8 +2,8 @@
 use Prim.Native.Nat.{ℕ, _+_, _<_, _≤_}
 use native.Mathlib.Decide.{ℕ-discrete}
 use native.Mathlib.Omega.{arith}
-use mathlib.Core.Path.{_≡_, refl, sym, ap, _∙_}
-use mathlib.Core.Logic.{_≢_, inl, inr}
+use mathlib.Core.Path.{_≡_, refl, ap, _∙_}
+use mathlib.Core.Logic.{_≢_}
 use mathlib.Core.Bool.{Bool, true, false, cond, false≢true}
 use mathlib.Core.List.{List, [], _∷_}
 use lib.Dec.{eqb}
@@ -19,7 +19,6 @@ use Rattle.gus.specs.State.{jobAt, workedBy, after, afterAll}
 use Rattle.invariants.specs.Sound.{Sound}
 use Rattle.invariants.specs.Proper.{Proper, at-same, at-other, sound-after}
 use Rattle.invariants.specs.Replay.{Replay, over, then}
-use Rattle.invariants.specs.Left.{Ended}
 
 -- what a part of n in a mode gives to run time and to rollback time, and what its grant adds to rollback time
 abbrev pub toRun : Bool → ℕ → ℕ
@@ -87,14 +86,10 @@ rollback-kept {js} i s (then {p = p} {ps = ps} g r) h = elim (ℕ-discrete i (p 
       rw (ne-eqb i (p .job) ne) (omega (arith, ih .0), omega (arith, ih .1))
 ]
 
--- each part of job i is in rollback; there is no part of job i
+-- each part of job i is in rollback
 abbrev pub OnlyRollback : ℕ → List Part → Type 0
 OnlyRollback i [] = Unit {0}
 OnlyRollback i (p ∷ ps) = (p .job ≡ i → p .rolling ≡ true) × OnlyRollback i ps
-
-abbrev pub NoPart : ℕ → List Part → Type 0
-NoPart i [] = Unit {0}
-NoPart i (p ∷ ps) = (p .job ≢ i) × NoPart i ps
 
 -- ONCE IN ROLLBACK a job never runs normally again.
 pub rolling-kept : {js : List Job} {ps : List Part} (i : ℕ) → Sound js → Replay js ps → jobAt js i .rolling ≡ true → OnlyRollback i ps
@@ -119,15 +114,3 @@ once-rollback {js} s (then {p = p} g r) = (λ e. rolling-kept (p .job) (sound-af
     now : (b : Bool) → b ≡ true → worked b (p .time) (jobAt js (p .job)) .rolling ≡ true
     now true e = rolledBack-rolling (p .time) (jobAt js (p .job))
     now false e = absurd (false≢true e)
-
--- A FINISHED JOB has no part.
-pub ended-kept : {js : List Job} {ps : List Part} (i : ℕ) → Replay js ps → Ended (jobAt js i) → NoPart i ps
-ended-kept i over h = tt
-ended-kept {js} i (then {p = p} {ps = ps} g r) h = (ne, ended-kept i r (rw (at-other js p i (λ e. ne (sym e))) h))
-  where
-    not-ended : Ended (jobAt js (p .job)) → ⊥
-    not-ended (inl e) = omega (arith, g .alive .run-some)
-    not-ended (inr e) = omega (arith, g .alive .rollback-some)
-
-    ne : p .job ≢ i
-    ne e = not-ended (rw e h)

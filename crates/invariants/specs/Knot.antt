@@ -4,7 +4,7 @@ use native.Mathlib.Nat.{not-suc-le-zero}
 use native.Mathlib.Decide.{ℕ-discrete}
 use native.Mathlib.Omega.{arith}
 use mathlib.Core.Path.{_≡_, refl, sym, _∙_}
-use mathlib.Core.Logic.{_⊎_, inl, inr}
+use mathlib.Core.Logic.{_⊎_, inl, inr, _↔_}
 use mathlib.Core.Bool.{Bool, true, false, true≢false}
 use lib.Dec.{eqb}
 use borrow.Author.Tests.{lt-leb, le-leb, eqb-true, eqb-false}
@@ -76,12 +76,9 @@ module _ (v : View) (t : ℕ) where
   knotted-none : {i : ℕ} → Knotted v i → victimOf v t (circleOf (v .waits) i) .some ≡ true → ⊥
   knotted-none {i} k e = let c = victim-is v t (circleOf (v .waits) i) e .1 in c .real (k .all _ (same-circle (k .on) (sym (c .member))))
 
-  -- NO KNOT exactly if every circle has a victim
+  -- where there is no knot every circle has a victim
   pub knot-none : 32 ≤ knotOf v t → (i : ℕ) → OnCircle (v .waits) 32 i → victimOf v t (circleOf (v .waits) i) .some ≡ true
   knot-none l i c = elim knot [ inl x ↦ x .1 .has (circleOf (v .waits) i) (circle-below c) (lowest-lowest c) | inr x ↦ absurd (omega (arith, x .below)) ]
-
-  pub knot-nobody : ((i : ℕ) → OnCircle (v .waits) 32 i → victimOf v t (circleOf (v .waits) i) .some ≡ true) → knotOf v t ≡ nobody
-  knot-nobody h = elim knot [ inl x ↦ x .0 | inr x ↦ absurd (knotted-none (stuck-knotted x) (h (knotOf v t) (stuck-on x))) ]
 
   -- THE KNOT is the lowest job of those
   pub knot-is : knotOf v t < 32 → Knotted v (knotOf v t) × ((i : ℕ) → Knotted v i → knotOf v t ≤ i)
@@ -95,3 +92,10 @@ module _ (v : View) (t : ℕ) where
       ],
     )
   ]
+
+  -- there is one exactly if some job is on such a circle
+  pub knot-exactly : (knotOf v t < 32) ↔ ((i : ℕ) × Knotted v i)
+  knot-exactly = (
+    λ l. (knotOf v t, knot-is l .0),
+    λ x. elim (lt-or-le (knotOf v t) 32) [ inl l ↦ l | inr l ↦ absurd (knotted-none (x .1) (knot-none l (x .0) (x .1 .on))) ],
+  )

@@ -11,7 +11,6 @@ pub mod Replay
 pub mod Paid
 pub mod Tally
 pub mod Left
-pub mod Finish
 pub mod Points
 pub mod Burden
 pub mod Denser

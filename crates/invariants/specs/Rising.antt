@@ -11,10 +11,6 @@ use Rattle.laws.specs.Search.{lt-or-le}
 pub record Rising (key : ℕ → ℕ) (xs : List ℕ) : Type 0 where
   pub rises : (a b : ℕ) → a < b → b < length xs → key (getD xs a 0) < key (getD xs b 0)
 
--- so no entry stands at two places
-pub rising-differ : {key : ℕ → ℕ} {xs : List ℕ} → Rising key xs → (a b : ℕ) → a < b → b < length xs → getD xs a 0 ≡ getD xs b 0 → ⊥
-rising-differ {key} {xs} r a b h l e = omega (arith, r .rises a b h l, ap key e)
-
 pub rising-append : {key : ℕ → ℕ} {xs : List ℕ} (x : ℕ) → Rising key xs → ((k : ℕ) → k < length xs → key (getD xs k 0) < key x) → Rising key (xs ++ x ∷ [])
 rising-append {key} {xs} x r h = record { rises = rises }
   where

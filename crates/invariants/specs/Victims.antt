@@ -17,7 +17,7 @@ use Rattle.gus.specs.Victims.{circleOf, victimOf, victimsTo, victimsOf, knotOf}
 use Rattle.invariants.specs.Circles.{circle-met, circle-below, lowest-lowest, same-circle}
 use Rattle.invariants.specs.Victim.{Candidate, victim-is}
 use Rattle.invariants.specs.Knot.{knot-none}
-use Rattle.invariants.specs.Rising.{Rising, rising-differ, rising-append}
+use Rattle.invariants.specs.Rising.{Rising, rising-append}
 use Rattle.invariants.specs.Among.{Among, among-front, among-back, among-either, among-at}
 
 -- x where it is so
@@ -90,7 +90,7 @@ module _ (v : View) (t : ℕ) where
         let e : circleOf (v .waits) low ≡ low = lowest-lowest c in
         (victimOf v t low .last, victims-have 32 low l e, same-circle c (sym (victim-at low l e .member)))
 
-    -- they are listed by the lowest member of their circle, so they are all different
+    -- and they are listed by the lowest member of their circle
     pub victims-rise : Rising (circleOf (v .waits)) (victimsOf v t)
     unfolding victimsOf victimsTo
     victims-rise = rise 32 (omega arith)
@@ -104,6 +104,3 @@ module _ (v : View) (t : ℕ) where
         rise : (n : ℕ) → n ≤ 32 → Rising (circleOf (v .waits)) (victimsTo v t n)
         rise zero l = record { rises = λ a b h k. absurd (not-suc-le-zero k) }
         rise (suc n) l = step n l (rise n (omega arith)) (eqb (circleOf (v .waits) n) n) refl
-
-    pub victims-differ : (a b : ℕ) → a < b → b < length (victimsOf v t) → getD (victimsOf v t) a 0 ≡ getD (victimsOf v t) b 0 → ⊥
-    victims-differ = rising-differ victims-rise

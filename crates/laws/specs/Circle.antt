@@ -1,4 +1,4 @@
--- Circles of a graph with one edge out of each place: a walk leaves the graph, or comes upon a place again and goes round for ever. Assumes nothing.
+-- Circles of a graph with one edge out of each place: a walk leaves the graph, or comes upon a place again and goes round for ever.
 use Prim.Native.Nat.{ℕ, zero, suc, _+_, _-_, _<_, _≤_}
 use native.Mathlib.Omega.{arith}
 use mathlib.Core.Path.{_≡_, refl, sym, ap, _∙_}

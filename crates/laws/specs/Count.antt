@@ -1,4 +1,4 @@
--- A loop that counts i up to n and keeps b: b becomes f i b. Assumes nothing.
+-- A loop that counts i up to n and keeps b: b becomes f i b.
 use Prim.Native.Nat.{ℕ, zero, suc, _+_, _<_, _≤_}
 use native.Mathlib.Numerals.{add-one}
 use native.Mathlib.Omega.{arith}

@@ -1,4 +1,4 @@
--- An element of a list does not depend on what is taken to stand past the list's end. Assumes nothing.
+-- An element of a list does not depend on what is taken to stand past the list's end.
 use mathlib.Core.Path.{_≡_, refl}
 use mathlib.Core.List.{List, [], _∷_}
 use Prim.Native.Nat.{ℕ, zero, suc, _<_}

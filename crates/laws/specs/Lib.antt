@@ -3,6 +3,7 @@ pub mod Inside
 pub mod Each
 pub mod Count
 pub mod Fill
+pub mod Stores
 pub mod Search
 pub mod Walk
 pub mod Circle

@@ -1,4 +1,4 @@
--- Changing edges of a graph with one edge out of each place: which changes leave no circle behind. Assumes nothing.
+-- Changing edges of a graph with one edge out of each place: which changes leave no circle behind.
 use Prim.Native.Nat.{ℕ, _<_, _≤_}
 use native.Mathlib.Omega.{arith}
 use mathlib.Core.Path.{_≡_, sym, _∙_}

@@ -1,4 +1,4 @@
--- Walking along a graph in which each place has one edge out: the places are the numbers below n, and a walk that comes to any other number stays there. Assumes nothing.
+-- Walking along a graph in which each place has one edge out: the places are the numbers below n, and a walk that comes to any other number stays there.
 use Prim.Native.Nat.{ℕ, zero, suc, _+_, _-_, _<_, _≤_}
 use native.Mathlib.Nat.{zero-add, suc-add, add-comm}
 use native.Mathlib.Numerals.{add-one}

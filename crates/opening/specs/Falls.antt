@@ -1,4 +1,4 @@
--- Run time left only falls: a part takes of it or leaves it, and a job that is sent back keeps it. Assumes nothing.
+-- Run time left only falls: a part takes of it or leaves it, and a job that is sent back keeps it.
 use Prim.Native.Nat.{ℕ, _≤_}
 use native.Mathlib.Decide.{ℕ-discrete}
 use native.Mathlib.Omega.{arith}

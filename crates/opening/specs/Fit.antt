@@ -1,4 +1,4 @@
--- The job of a good record is fit. Assumes nothing.
+-- The job of a good record is fit.
 use Prim.Native.Nat.{ℕ, _<_, _≤_}
 use native.Mathlib.Omega.{arith}
 use mathlib.Core.Path.{_≡_}

@@ -1,4 +1,4 @@
--- What a record's held list gives its job: each entry stands at its resource, and a resource that no entry names is free. Assumes nothing.
+-- What a record's held list gives its job: each entry stands at its resource, and a resource that no entry names is free.
 use Prim.Native.Nat.{ℕ, zero, suc, _<_, _≤_}
 use native.Mathlib.Nat.{not-suc-le-zero}
 use native.Mathlib.Decide.{ℕ-discrete}

@@ -1,4 +1,4 @@
--- The holders of an accepted book are those that the planner finds by search. Assumes nothing.
+-- The holders of an accepted book are those that the planner finds by search.
 use Prim.Native.Nat.{ℕ, _<_}
 use native.Mathlib.Omega.{arith}
 use mathlib.Core.Path.{_≡_, sym, ap, _∙_}

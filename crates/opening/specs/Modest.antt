@@ -1,4 +1,4 @@
--- How far the numbers of a view go, at every moment of a plan. Assumes nothing.
+-- How far the numbers of a view go, at every moment of a plan.
 use Prim.Native.Nat.{ℕ, _≤_}
 use native.Mathlib.Omega.{arith}
 use mathlib.Core.List.{List}

@@ -1,4 +1,4 @@
--- FROM AN ACCEPTED STRING OF BYTES to what the planner relies on. Assumes nothing.
+-- FROM AN ACCEPTED STRING OF BYTES to what the planner relies on.
 use Prim.Native.Nat.{ℕ, _≤_}
 use mathlib.Core.Path.{_≡_}
 use mathlib.Core.List.{List}

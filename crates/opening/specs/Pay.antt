@@ -1,4 +1,4 @@
--- What a finish pays is at most a million, gained or lost. Assumes nothing.
+-- What a finish pays is at most a million, gained or lost.
 use Prim.Native.Nat.{ℕ, zero-le, _≤_}
 use mathlib.Core.Logic.{inl, inr}
 use lib.Dec.{ltb}

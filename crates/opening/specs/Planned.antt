@@ -1,7 +1,7 @@
--- THE PLAN OF AN ACCEPTED BOOK without a knot: it starts ready, keeps demand 3, and its numbers fit the answer. Assumes nothing.
+-- THE PLAN OF AN ACCEPTED BOOK without a knot: it starts ready, keeps demand 3, and its numbers fit the answer.
 use Prim.Native.Nat.{_+_, _*_, _≤_}
 use native.Mathlib.Omega.{arith}
-use mathlib.Core.Path.{_≡_, ap}
+use mathlib.Core.Path.{_≡_}
 use mathlib.Core.List.{List}
 use lib.IntN.{natAbs}
 use lib.ListN.{length}
@@ -18,11 +18,10 @@ use Rattle.gus.specs.Plan.{Answer, answerBy, answerOf}
 use Rattle.invariants.specs.Waiting.{Ready}
 use Rattle.invariants.specs.Fair.{by-density-fair}
 use Rattle.invariants.specs.Replay.{Replay, replay-ready}
-use Rattle.invariants.specs.Burden.{burden-most}
 use Rattle.invariants.specs.Left.{countLeft}
 use Rattle.invariants.specs.Rounds.{Replayed, replayed}
-use Rattle.invariants.specs.Total.{paid-within}
-use Rattle.invariants.specs.End.{Small, lasts-most}
+use Rattle.invariants.specs.End.{Small}
+use Rattle.invariants.specs.Bound.{rounds-few, parts-few, total-within, end-within}
 use Rattle.invariants.specs.Victims.{victims-few}
 use Rattle.invariants.specs.Start.{ready-settled}
 use Rattle.opening.specs.Start.{jobsFrom, payFrom}
@@ -77,8 +76,8 @@ module _ {b : Book} (g : Good b) (none : 32 ≤ knotOf (viewFrom b) (b .now)) wh
   unfolding answerBy
   few-victims = victims-few (viewFrom b) (b .now)
 
-  total-within : natAbs (answerFrom b .plan .total) ≤ 32000000
-  total-within = omega (arith, ap natAbs (runs .total), paid-within (payFrom b) 1000000 (pay-within g) (b .now) (starts .sound) (runs .replay), few, g .jobs)
+  small-total : natAbs (answerFrom b .plan .total) ≤ 32000000
+  small-total = omega (arith, total-within (starts .sound) runs 1000000 (pay-within g), few, g .jobs)
 
   pub planned : Planned b
   planned = record {
@@ -87,10 +86,10 @@ module _ {b : Book} (g : Good b) (none : 32 ≤ knotOf (viewFrom b) (b .now)) wh
     modest = λ ps r. modest (payFrom b) (pay-within g) (replay-ready r starts .sound) (small-after-all small ps);
     replayed = runs;
     victims = few-victims;
-    parts = omega (arith, runs .short, burden-most (starts .sound));
+    parts = parts-few (starts .sound) runs;
     rounds = omega (arith, runs .few, few);
-    rounds-most = omega (arith, runs .few, few, g .jobs);
+    rounds-most = rounds-few (starts .sound) runs;
     total-some = runs .never-less;
-    total-most = omega (arith, total-within, abs-is (answerFrom b .plan .total));
-    end = omega (arith, runs .end, lasts-most (starts .sound) small (runs .replay));
+    total-most = omega (arith, small-total, abs-is (answerFrom b .plan .total));
+    end = end-within (starts .sound) runs small;
   }

@@ -1,4 +1,4 @@
--- Run times of 16 bits: a book's are, and stay so. Assumes nothing.
+-- Run times of 16 bits: a book's are, and stay so.
 use Prim.Native.Nat.{ℕ}
 use native.Mathlib.Omega.{arith}
 use mathlib.Core.Path.{ap}

@@ -1,4 +1,4 @@
--- The jobs of an accepted book are sound: each is fit, and nothing has two holders. Assumes nothing.
+-- The jobs of an accepted book are sound: each is fit, and nothing has two holders.
 use Prim.Native.Nat.{ℕ, _<_, _≤_}
 use native.Mathlib.Omega.{arith}
 use mathlib.Core.Path.{_≡_, sym, ap, _∙_}

@@ -1,4 +1,4 @@
--- What the planner starts from: the jobs of a book, and what their finishes are worth. Assumes nothing.
+-- What the planner starts from: the jobs of a book, and what their finishes are worth.
 use mathlib.Core.Path.{_≡_, refl}
 use mathlib.Core.List.{List, map}
 use Prim.Native.Nat.{ℕ, min}

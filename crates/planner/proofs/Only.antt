@@ -1,4 +1,4 @@
--- What the public function promises leaves one result: stated over its own contract, as the check reads it. Assumes nothing.
+-- What the public function promises leaves one result: stated over its own contract, as the check reads it.
 use mathlib.Core.Path.{_≡_, sym, _∙_}
 use Prim.Native.Nat.{ℕ}
 use mathlib.Core.List.{List}

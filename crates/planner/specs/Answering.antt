@@ -1,4 +1,4 @@
--- From the jobs of a book to its answer: knot, victims, rounds. Assumes nothing.
+-- From the jobs of a book to its answer: knot, victims, rounds.
 use mathlib.Core.Path.{_≡_, refl, sym, ap, subst, _∙_}
 use mathlib.Core.List.{List, map}
 use Prim.Native.Nat.{ℕ, _<_, _≤_}
@@ -8,7 +8,7 @@ use lib.IntN.{ℤ, natAbs}
 use lib.ListN.{length-map}
 use Rattle.job.specs.declared.Job.{Job}
 use Rattle.book.specs.declared.Book.{Book}
-use Rattle.book.specs.Refusal.{KNOT}
+use Rattle.cursor.specs.Refusal.{KNOT}
 use Rattle.book.specs.Format.{bookOf}
 use Rattle.gus.specs.View.{Pay, View, viewOf}
 use Rattle.gus.specs.Choice.{byDensity}

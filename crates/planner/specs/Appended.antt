@@ -1,4 +1,4 @@
--- Parts written into an array, one after the other, from a place on. Assumes nothing.
+-- Parts written into an array, one after the other, from a place on.
 use mathlib.Core.List.{List, [], _∷_}
 use Prim.Native.Nat.{ℕ, _+_}
 use lib.ListN.{set}

@@ -1,4 +1,4 @@
--- The loop that writes parts into an array, and that an array filled from its start stays so. Assumes nothing.
+-- The loop that writes parts into an array, and that an array filled from its start stays so.
 use mathlib.Core.Path.{_≡_, sym, ap, _∙_}
 use mathlib.Core.List.{List, [], _∷_, _++_}
 use Prim.Native.Nat.{ℕ, suc, _+_, _<_, _≤_}

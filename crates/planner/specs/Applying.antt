@@ -1,4 +1,4 @@
--- The loop that takes a state along a row of parts. Assumes nothing.
+-- The loop that takes a state along a row of parts.
 use mathlib.Core.Path.{_≡_, refl, sym, ap, _∙_}
 use mathlib.Core.List.{List}
 use Prim.Native.Nat.{ℕ, _+_, _<_, _≤_}

@@ -1,4 +1,4 @@
--- How far times and gains go: each job of a chain adds at most 65,535 milliseconds and a million. Assumes nothing.
+-- How far times and gains go: each job of a chain adds at most 65,535 milliseconds and a million.
 use mathlib.Core.Bool.{Bool, true, false}
 use Prim.Native.Nat.{ℕ, suc, _+_, _*_, _≤_}
 use native.Mathlib.Omega.{arith}

@@ -1,4 +1,4 @@
--- The choice of a mode, taken apart as the code takes it. Assumes nothing.
+-- The choice of a mode, taken apart as the code takes it.
 use mathlib.Core.Path.{_≡_, _∙_}
 use mathlib.Core.Bool.{Bool, true, false}
 use mathlib.Core.List.{List, _∷_}

@@ -1,4 +1,4 @@
--- The walk along a circle of waits, and the circle of each job. Assumes nothing.
+-- The walk along a circle of waits, and the circle of each job.
 use mathlib.Core.Path.{_≡_, refl, sym, _∙_}
 use mathlib.Core.List.{List}
 use Prim.Native.Nat.{ℕ, zero, suc, _-_, _<_, _≤_, min}

@@ -1,4 +1,4 @@
--- A job against the best of those before it. Assumes nothing.
+-- A job against the best of those before it.
 use mathlib.Core.Path.{_≡_, refl, sym, ap, subst}
 use mathlib.Core.Bool.{Bool, true, false}
 use Prim.Native.Nat.{ℕ}

@@ -1,4 +1,4 @@
--- How much an answer has at most, for every string of bytes: what a writer of it has to know. Assumes nothing.
+-- How much an answer has at most, for every string of bytes: what a writer of it has to know.
 use mathlib.Core.Path.{_≡_, refl}
 use mathlib.Core.Bool.{Bool, true, false}
 use mathlib.Core.List.{List}
@@ -6,7 +6,7 @@ use Prim.Native.Nat.{ℕ, _≤_}
 use native.Mathlib.Omega.{arith}
 use lib.Dec.{ltb}
 use borrow.Author.Tests.{ltb-false}
-use Rattle.book.specs.Refusal.{KNOT}
+use Rattle.cursor.specs.Refusal.{KNOT}
 use Rattle.book.specs.Format.{bookOf}
 use Rattle.gus.specs.View.{viewOf}
 use Rattle.gus.specs.Victims.{knotOf}

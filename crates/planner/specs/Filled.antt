@@ -1,4 +1,4 @@
--- An array that is filled place by place reads as the function that filled it. Assumes nothing.
+-- An array that is filled place by place reads as the function that filled it.
 use mathlib.Core.Path.{_≡_, refl, sym, ap, _∙_}
 use mathlib.Core.Logic.{inl, inr}
 use mathlib.Core.List.{List}

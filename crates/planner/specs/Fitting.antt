@@ -1,4 +1,4 @@
--- A stage from which a round may start, and that it stays so. Assumes nothing.
+-- A stage from which a round may start, and that it stays so.
 use mathlib.Core.Path.{_≡_}
 use mathlib.Core.Bool.{true, false≢true}
 use mathlib.Core.List.{List}

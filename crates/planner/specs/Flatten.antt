@@ -1,4 +1,4 @@
--- The curves of 32 records in flat lists, and that these read as the records' own curves. Assumes nothing.
+-- The curves of 32 records in flat lists, and that these read as the records' own curves.
 use mathlib.Core.Path.{_≡_, refl, sym, ap, _∙_}
 use mathlib.Core.Bool.{cond}
 use mathlib.Core.List.{List}

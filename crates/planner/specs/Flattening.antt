@@ -1,4 +1,4 @@
--- The loops that lay the curves into flat lists: one curve's eight pieces, and the curves of all jobs. Assumes nothing.
+-- The loops that lay the curves into flat lists: one curve's eight pieces, and the curves of all jobs.
 use mathlib.Core.Path.{_≡_, sym, ap, _∙_}
 use mathlib.Core.List.{List}
 use Prim.Native.Nat.{ℕ, _+_, _*_, _<_, _≤_, min}

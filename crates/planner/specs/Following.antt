@@ -1,4 +1,4 @@
--- The loop that follows waits, from the end of an array to its start. Assumes nothing.
+-- The loop that follows waits, from the end of an array to its start.
 use mathlib.Core.Path.{_≡_, refl, sym, ap, _∙_}
 use mathlib.Core.List.{List, [], _∷_}
 use Prim.Native.Nat.{ℕ, zero, suc, _+_, _-_, _<_, _≤_}

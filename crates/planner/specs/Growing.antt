@@ -1,4 +1,4 @@
--- The loops that grow a group along a chain, with its parts or its course alone. Assumes nothing.
+-- The loops that grow a group along a chain, with its parts or its course alone.
 use mathlib.Core.Path.{_≡_, refl, sym, ap, _∙_}
 use mathlib.Core.Bool.{Bool, true, false, cond}
 use mathlib.Core.List.{List, [], _∷_}

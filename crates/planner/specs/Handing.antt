@@ -1,4 +1,4 @@
--- What the caller has of the array of victims: they are those of the definition, by any view of the same jobs, and each is a job. Assumes nothing.
+-- What the caller has of the array of victims: they are those of the definition, by any view of the same jobs, and each is a job.
 use mathlib.Core.Path.{_≡_, refl, ap, _∙_}
 use mathlib.Core.Bool.{Bool, true, false}
 use mathlib.Core.List.{List, [], _∷_, _++_}

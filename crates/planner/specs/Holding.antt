@@ -1,4 +1,4 @@
--- The array of holders along a replay: after each part it is as the jobs have it. Assumes nothing.
+-- The array of holders along a replay: after each part it is as the jobs have it.
 use mathlib.Core.Path.{_≡_, sym, ap, _∙_}
 use mathlib.Core.List.{List}
 use Prim.Native.Nat.{ℕ, _<_}

@@ -1,4 +1,4 @@
--- What a round finds by the lent arrays is what the definition finds by the jobs, and its group can be joined to the plan. Assumes nothing.
+-- What a round finds by the lent arrays is what the definition finds by the jobs, and its group can be joined to the plan.
 use mathlib.Core.Path.{_≡_, sym, ap, _∙_}
 use mathlib.Core.Bool.{Bool, true}
 use mathlib.Core.List.{List}

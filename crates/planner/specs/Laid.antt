@@ -1,4 +1,4 @@
--- The arrays of a round, as they are laid out from the jobs. Assumes nothing.
+-- The arrays of a round, as they are laid out from the jobs.
 use mathlib.Core.Bool.{false, cond}
 use mathlib.Core.List.{List}
 use Prim.Native.Nat.{ℕ}

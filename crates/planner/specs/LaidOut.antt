@@ -1,4 +1,4 @@
--- A group as the code returns it: in 32 places, with empty parts after its own. Assumes nothing.
+-- A group as the code returns it: in 32 places, with empty parts after its own.
 use mathlib.Core.Bool.{false}
 use lib.ListN.{length}
 use Rattle.laws.specs.Fill.{padded}

@@ -1,4 +1,4 @@
--- THE BRIDGE: where the holders agree with the jobs, the laid arrays give the view of the jobs. Assumes nothing.
+-- THE BRIDGE: where the holders agree with the jobs, the laid arrays give the view of the jobs.
 use mathlib.Core.Path.{_≡_, refl, sym, ap, _∙_}
 use mathlib.Core.Bool.{true, false}
 use mathlib.Core.Logic.{inl, inr}

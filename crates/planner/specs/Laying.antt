@@ -1,4 +1,4 @@
--- The loop that lays out the arrays of a round. Assumes nothing.
+-- The loop that lays out the arrays of a round.
 use mathlib.Core.Path.{_≡_, refl, ap, _∙_}
 use mathlib.Core.Bool.{Bool, true, false, cond}
 use mathlib.Core.List.{List}

@@ -1,4 +1,4 @@
--- How far the groups of a round go, whatever the way of choosing a mode. Assumes nothing.
+-- How far the groups of a round go, whatever the way of choosing a mode.
 use mathlib.Core.Path.{_≡_, refl, ap}
 use mathlib.Core.Bool.{Bool, true, false}
 use mathlib.Core.List.{List, [], _∷_}

@@ -1,4 +1,4 @@
--- The victims in an array, circle by circle. Assumes nothing.
+-- The victims in an array, circle by circle.
 use mathlib.Core.Path.{_≡_, refl, sym, ap, _∙_}
 use mathlib.Core.Bool.{Bool, true, false}
 use mathlib.Core.List.{List, [], _∷_, _++_, append-nil, append-assoc}

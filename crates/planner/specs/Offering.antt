@@ -1,4 +1,4 @@
--- The choice of a circle's victim, job by job. Assumes nothing.
+-- The choice of a circle's victim, job by job.
 use mathlib.Core.Path.{_≡_, sym, ap, _∙_}
 use mathlib.Core.Bool.{Bool, true, false}
 use mathlib.Core.List.{List, []}

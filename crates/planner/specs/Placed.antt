@@ -1,4 +1,4 @@
--- A chain at the end of an array of 32 places. Assumes nothing.
+-- A chain at the end of an array of 32 places.
 use mathlib.Core.Path.{_≡_, refl, ap, _∙_}
 use mathlib.Core.List.{List, [], _∷_}
 use Prim.Native.Nat.{ℕ, zero, suc, _+_, _-_, _<_}

@@ -1,4 +1,4 @@
--- The answer to a book, laid out: its refusal, or its victims and its plan. Assumes nothing.
+-- The answer to a book, laid out: its refusal, or its victims and its plan.
 use mathlib.Core.Bool.{true, false}
 use mathlib.Core.List.{List, []}
 use Prim.Native.Nat.{ℕ}
@@ -7,7 +7,7 @@ use lib.IntN.{pos}
 use lib.ListN.{length}
 use Rattle.laws.specs.Fill.{padded}
 use Rattle.job.specs.declared.Job.{Job}
-use Rattle.book.specs.Refusal.{KNOT}
+use Rattle.cursor.specs.Refusal.{KNOT}
 use Rattle.book.specs.Format.{bookOf}
 use Rattle.gus.specs.View.{Pay, viewOf}
 use Rattle.gus.specs.Victims.{knotOf}

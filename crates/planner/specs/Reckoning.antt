@@ -1,4 +1,4 @@
--- The loop that reckons a chain to its end: its invariant, begun, carried on and ended. Assumes nothing.
+-- The loop that reckons a chain to its end: its invariant, begun, carried on and ended.
 use mathlib.Core.Path.{_≡_, refl, sym, _∙_}
 use mathlib.Core.List.{List}
 use Prim.Native.Nat.{ℕ, _+_, _<_, _≤_}

@@ -1,4 +1,4 @@
--- A group along a chain asks neither who is left nor who waits. Assumes nothing.
+-- A group along a chain asks neither who is left nor who waits.
 use mathlib.Core.Path.{_≡_, refl, sym}
 use mathlib.Core.Bool.{Bool, true, false}
 use mathlib.Core.List.{List, [], _∷_}

@@ -1,4 +1,4 @@
--- The view of the jobs that lent arrays give. Assumes nothing.
+-- The view of the jobs that lent arrays give.
 use mathlib.Core.Bool.{Bool, false}
 use mathlib.Core.List.{List, []}
 use Prim.Native.Nat.{ℕ}

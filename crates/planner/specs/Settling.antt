@@ -1,4 +1,4 @@
--- The victims sent into rollback one after the other. Assumes nothing.
+-- The victims sent into rollback one after the other.
 use mathlib.Core.Path.{_≡_, refl, ap, _∙_}
 use mathlib.Core.List.{List, _∷_}
 use Prim.Native.Nat.{ℕ, suc, _+_, _<_, _≤_}

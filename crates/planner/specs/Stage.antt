@@ -1,4 +1,4 @@
--- One round of the code's loop, as a step from stage to stage (VI.1 at 01's way of choosing). Assumes nothing.
+-- One round of the code's loop, as a step from stage to stage (VI.1 at 01's way of choosing).
 use mathlib.Core.List.{[]}
 use Prim.Native.Nat.{ℕ, _+_}
 use lib.IntN.{pos, _+ℤ_}

@@ -1,4 +1,4 @@
--- THE ROUNDS AS A LOOP: the plan so far, joined with the rounds left from here, is the whole plan. Assumes nothing.
+-- THE ROUNDS AS A LOOP: the plan so far, joined with the rounds left from here, is the whole plan.
 use mathlib.Core.Path.{_≡_, refl, sym, _∙_}
 use mathlib.Core.Bool.{true, false}
 use Prim.Native.Nat.{ℕ, suc, _+_, _-_, _<_, _≤_}

@@ -1,4 +1,4 @@
--- The loop that takes the jobs and the curves from a book's records. Assumes nothing.
+-- The loop that takes the jobs and the curves from a book's records.
 use mathlib.Core.Path.{_≡_, ap, _∙_}
 use mathlib.Core.List.{List, map}
 use Prim.Native.Nat.{ℕ, _+_, _*_, _<_, _≤_, min}

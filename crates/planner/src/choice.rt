@@ -1,6 +1,6 @@
 // The choice of a mode (VI.5).
 ghost use mathlib.Core.Path.{_≡_};
-ghost use Prim.Native.Nat.{_+_, _≤_, _<_};
+ghost use Prim.Native.Nat.{_+_, _<_};
 ghost use lib.ListN.{getD};
 ghost use Rattle.gus.specs.Choice.{reckonOne, reckon, byDensity};
 ghost use Rattle.planner.specs.Seen.{seenTimes};

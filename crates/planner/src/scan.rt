@@ -1,6 +1,6 @@
 // The best group of a round (VI.1).
 ghost use mathlib.Core.Path.{_≡_};
-ghost use Prim.Native.Nat.{_≤_, _<_};
+ghost use Prim.Native.Nat.{_<_};
 ghost use Rattle.gus.specs.Course.{start};
 ghost use Rattle.gus.specs.Choice.{byDensity};
 ghost use Rattle.gus.specs.Group.{grow};

@@ -1,4 +1,4 @@
--- `ilhuepatl::answer::put_answer` meets its contract: its calls are the answer's four runs of stores. Assumes nothing.
+-- `ilhuepatl::answer::put_answer` meets its contract: its calls are the answer's four runs of stores.
 use mathlib.Core.Path.{_∙_}
 use native.Mathlib.Omega.{arith}
 use lib.ListN.{length-set, length-map}

@@ -1,4 +1,4 @@
--- `ilhuepatl::answer::put_close` meets its contract: a store and the total's bytes, and then the end's where those end. Assumes nothing.
+-- `ilhuepatl::answer::put_close` meets its contract: a store and the total's bytes, and then the end's where those end.
 use mathlib.Core.Path.{_≡_, ap, _∙_}
 use mathlib.Core.List.{List, _∷_}
 use Prim.Native.Nat.{ℕ, _+_}
@@ -10,7 +10,7 @@ use mir.Facts.{toZ-ofZ}
 use borrow.Author.Needs.{needs}
 use Rattle.ilhuepatl.specs.Answer.{four, bits}
 use Rattle.ilhuepatl.specs.Length.{four-length}
-use Rattle.ilhuepatl.specs.Stores.{then-sets}
+use Rattle.laws.specs.Stores.{then-sets}
 use Rattle.ilhuepatl.proofs.answer.put_close.Statement.{statement}
 use Rattle.ilhuepatl.proofs.answer.put_close.Tie as tie
 

@@ -1,4 +1,4 @@
--- `ilhuepatl::answer::put_victims` meets its contract. The loop's invariant: after the count the first i victims are stored. Assumes nothing.
+-- `ilhuepatl::answer::put_victims` meets its contract. The loop's invariant: after the count the first i victims are stored.
 use mathlib.Core.Path.{_≡_, refl, _∙_}
 use mathlib.Core.List.{[], _∷_}
 use Prim.Native.Nat.{_+_, _-_}
@@ -7,7 +7,7 @@ use native.Mathlib.Omega.{arith}
 use lib.ListN.{length, getD, length-set}
 use lib.Seq.{length-take-le}
 use borrow.Author.Needs.{needs}
-use Rattle.ilhuepatl.specs.Stores.{Storing, storing-length, storing-next, storing-ended}
+use Rattle.laws.specs.Stores.{Storing, storing-length, storing-next, storing-ended}
 use Rattle.ilhuepatl.proofs.answer.put_victims.Statement.{statement}
 use Rattle.ilhuepatl.proofs.answer.put_victims.Tie as tie
 

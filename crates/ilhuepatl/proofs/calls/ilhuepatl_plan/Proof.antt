@@ -3,10 +3,6 @@ use Rattle.ilhuepatl.specs.Calls.{Outcome, word}
 use borrow.Author.Needs.{needs}
 use Rattle.ilhuepatl.proofs.calls.ilhuepatl_plan.Statement.{statement}
 use Rattle.ilhuepatl.proofs.calls.ilhuepatl_plan.Tie as tie
-use Rattle.ilhuepatl.proofs.calls.ilhuepatl_plan.Reads as reads
-use Rattle.ilhuepatl.proofs.calls.ilhuepatl_plan.Lts as lts
-use Rattle.ilhuepatl.proofs.calls.plan_bytes.Reads as plan-bytes-reads
-use Rattle.ilhuepatl.proofs.calls.word_of.Reads as word-of-reads
 
 -- src/calls.rt:42:9
 plan-bytes-requires : tie.Need-plan-bytes-requires

@@ -2,10 +2,6 @@ use Rattle.ilhuepatl.specs.Outcomes.{word-refused, word-found}
 use borrow.Author.Needs.{needs}
 use Rattle.ilhuepatl.proofs.calls.ilhuepatl_record.Statement.{statement}
 use Rattle.ilhuepatl.proofs.calls.ilhuepatl_record.Tie as tie
-use Rattle.ilhuepatl.proofs.calls.ilhuepatl_record.Reads as reads
-use Rattle.ilhuepatl.proofs.calls.ilhuepatl_record.Lts as lts
-use Rattle.book.proofs.question.find_record.Reads as find-record-reads
-use Rattle.ilhuepatl.proofs.calls.word_of.Reads as word-of-reads
 
 -- src/calls.rt:51:9
 find-record-requires : tie.Need-find-record-requires

@@ -1,7 +1,6 @@
 use mathlib.Core.Path.{sym, subst}
 use Rattle.planner.specs.Counted.{Counted, counted}
 use Rattle.ilhuepatl.specs.Outcomes.{no-room, refused, answered}
-use Rattle.planner.specs.Counted.{counted}
 use native.Mathlib.Omega.{arith}
 use borrow.Author.Needs.{needs}
 use Rattle.ilhuepatl.proofs.calls.plan_bytes.Statement.{statement}

@@ -3,8 +3,6 @@ use Rattle.ilhuepatl.specs.Calls.{word}
 use borrow.Author.Needs.{needs}
 use Rattle.ilhuepatl.proofs.calls.word_of.Statement.{statement}
 use Rattle.ilhuepatl.proofs.calls.word_of.Tie as tie
-use Rattle.ilhuepatl.proofs.calls.word_of.Reads as reads
-use Rattle.ilhuepatl.proofs.calls.word_of.Lts as lts
 
 -- src/calls.rt:34:5
 mul-result : tie.Need-mul-result

@@ -1,4 +1,4 @@
--- `ilhuepatl::number::bits_of` meets its contract: 2^32 more than v is not below zero, and what is left of it is the definition's. Assumes nothing.
+-- `ilhuepatl::number::bits_of` meets its contract: 2^32 more than v is not below zero, and what is left of it is the definition's.
 use mathlib.Core.Path.{_≡_, ap}
 use Prim.Native.Nat.{ℕ, _+_, _-_, _%_, _≤_}
 use native.Mathlib.Omega.{arith}

@@ -1,4 +1,4 @@
--- `ilhuepatl::number::put_four` meets its contract: its stores are the run of stores, at `at` to `at + 3`. Assumes nothing.
+-- `ilhuepatl::number::put_four` meets its contract: its stores are the run of stores, at `at` to `at + 3`.
 use mathlib.Core.Path.{_≡_}
 use Prim.Native.Nat.{suc, _+_}
 use native.Mathlib.Omega.{arith}

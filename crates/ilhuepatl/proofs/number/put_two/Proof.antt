@@ -1,4 +1,4 @@
--- `ilhuepatl::number::put_two` meets its contract: its stores are the run of stores, at `at` and `at + 1`. Assumes nothing.
+-- `ilhuepatl::number::put_two` meets its contract: its stores are the run of stores, at `at` and `at + 1`.
 use native.Mathlib.Numerals.{add-one}
 use native.Mathlib.Omega.{arith}
 use lib.ListN.{length-set}

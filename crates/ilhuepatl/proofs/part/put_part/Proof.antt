@@ -1,4 +1,4 @@
--- `ilhuepatl::part::put_part` meets its contract: two stores, and then the time's bytes. Assumes nothing.
+-- `ilhuepatl::part::put_part` meets its contract: two stores, and then the time's bytes.
 use mathlib.Core.Path.{_≡_, _∙_}
 use Prim.Native.Nat.{suc, _+_}
 use native.Mathlib.Omega.{arith}

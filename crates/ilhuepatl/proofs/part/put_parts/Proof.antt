@@ -1,4 +1,4 @@
--- `ilhuepatl::part::put_parts` meets its contract. The loop's invariant: after the count the bytes of the first i parts are stored. Assumes nothing.
+-- `ilhuepatl::part::put_parts` meets its contract. The loop's invariant: after the count the bytes of the first i parts are stored.
 use mathlib.Core.Bool.{false}
 use mathlib.Core.Path.{_≡_, refl, _∙_}
 use Prim.Native.Nat.{_+_, _*_, _-_}
@@ -11,7 +11,7 @@ use Rattle.gus.specs.declared.Part.{Part}
 use Rattle.gus.specs.Group.{partOf}
 use Rattle.ilhuepatl.specs.Answer.{partBytes, partsBytes}
 use Rattle.ilhuepatl.specs.Parts.{parts-length, parts-snoc}
-use Rattle.ilhuepatl.specs.Stores.{Storing, storing-length, storing-next, storing-ended}
+use Rattle.laws.specs.Stores.{Storing, storing-length, storing-next, storing-ended}
 use Rattle.ilhuepatl.proofs.part.put_parts.Statement.{statement}
 use Rattle.ilhuepatl.proofs.part.put_parts.Tie as tie
 

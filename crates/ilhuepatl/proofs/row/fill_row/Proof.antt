@@ -1,7 +1,6 @@
 -- `ilhuepatl::row::fill_row` meets its contract. The row is lent and holds structs, so the code is walked by hand: the row is opened before the loop, each turn stores one part, and the row is shut after the loop.
 -- While it is open the row's memory is ours. After i turns it holds the list `out`, which is the lent list with the first i parts over its start (`Storing`).
 -- `part_at` is known by its contract alone. Parts and numbers own facts alone, so what a call takes of them is made anew.
--- Assumes nothing.
 use mathlib.Core.Path.{_≡_, refl, sym, ap, subst, _∙_}
 use mathlib.Core.Bool.{Bool, true, false}
 use mathlib.Core.List.{List, [], _∷_}
@@ -51,13 +50,12 @@ use denote.Triple.Spec.{Meets, tripleOf}
 use denote.Triple.Table.{entered, cited}
 use denote.Triple.Walked.{says, needs, Stays, stay-slice, stay-dropped, walkOf, goes-slice, goes-dropped, ends-at, walked, walk-meets}
 use borrow.Author.Tests.{ltb-true, ltb-false, lt-ltb, le-ltb}
-use Rattle.book.proofs.Walk.{Promise, Learns, asks, gone}
+use Rattle.cursor.proofs.Walk.{Promise, Learns, asks, gone}
 use Rattle.gus.specs.declared.Part.{Part}
 use Rattle.gus.proofs.Part as P
 use Rattle.gus.proofs.Part.Laws as P′
 use Rattle.planner.specs.LaidOut.{emptyPart}
-use Rattle.ilhuepatl.specs.Answer.{over}
-use Rattle.ilhuepatl.specs.Stores.{Storing, storing-length, storing-next, storing-ended, over-sets}
+use Rattle.laws.specs.Stores.{over, Storing, storing-length, storing-next, storing-ended, over-sets}
 use Rattle.ilhuepatl.proofs.row.part_at as at
 use Rattle.ilhuepatl.proofs.row.part_at.Symbol as at-def
 use Rattle.ilhuepatl.proofs.row.part_at.Met as at-thm

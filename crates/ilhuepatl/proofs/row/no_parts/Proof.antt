@@ -1,4 +1,4 @@
--- `ilhuepatl::row::no_parts` meets its contract: one part, 96 times. Assumes nothing.
+-- `ilhuepatl::row::no_parts` meets its contract: one part, 96 times.
 use mathlib.Core.Path.{refl}
 use Rattle.ilhuepatl.proofs.row.no_parts.Statement.{statement}
 use Rattle.ilhuepatl.proofs.row.no_parts.Tie as tie

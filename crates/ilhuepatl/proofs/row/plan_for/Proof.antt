@@ -1,4 +1,4 @@
--- `ilhuepatl::row::plan_for` meets its contract: no room, the plan's refusal, or the plan. Assumes nothing.
+-- `ilhuepatl::row::plan_for` meets its contract: no room, the plan's refusal, or the plan.
 use borrow.Author.Needs.{needs}
 use Rattle.ilhuepatl.specs.RowPlans.{no-room, refused, answered, fitting}
 use Rattle.ilhuepatl.proofs.row.plan_for.Statement.{statement}

@@ -1,6 +1,5 @@
 -- `ilhuepatl::row::plan_parts` meets its contract. It lends a row of its own, so the code is walked by hand: `no_parts` makes the row, `plan_row` is lent it for a lifetime that is made for that call, and what it left there is returned beside the answer.
 -- While the row is lent its memory is `plan_row`'s, and we hold the lender's part. Once the lifetime is over the memory is ours again, at the last list that `plan_row` says.
--- Assumes nothing.
 use mathlib.Core.Path.{_≡_, refl, sym, ap, subst, _∙_}
 use mathlib.Core.List.{List, [], _∷_}
 use Prim.Native.Nat.{ℕ}
@@ -47,7 +46,7 @@ use denote.Triple.Entry.{Vals, onEntry}
 use denote.Triple.Spec.{Meets, tripleOf}
 use denote.Triple.Table.{entered, cited}
 use denote.Triple.Walked.{says, Stays, stay-dropped, walkOf, goes-dropped, ends-at, walked, walk-meets}
-use Rattle.book.proofs.Walk.{Promise, Tokens, Learns, asks, Last, Said, Leaves, lends, gone}
+use Rattle.cursor.proofs.Walk.{Promise, Tokens, Learns, asks, Last, Said, Leaves, lends, gone}
 use Rattle.gus.specs.declared.Part.{Part}
 use Rattle.gus.proofs.Part as P
 use Rattle.gus.proofs.Part.Laws as P′

@@ -1,7 +1,6 @@
 -- `ilhuepatl::row::plan_row` meets its contract. The row is lent and holds structs, so the code is walked by hand: the row's length is read, `plan_for` settles what to say and what to store, `fill_row` stores it, and the answer is returned.
 -- The book goes to `plan_for` and the row to `fill_row`, each with its lifetime's token, which comes back. The row is given for good, so what `fill_row` says of its last list is what is said at the return.
 -- A plan owns facts alone: what `fill_row` takes of it, and the answer, are made of the plan's facts.
--- Assumes nothing.
 use mathlib.Core.Path.{_≡_, refl, ap, _∙_}
 use mathlib.Core.List.{List, [], _∷_}
 use Prim.Native.Nat.{ℕ, _≤_}
@@ -39,12 +38,12 @@ use denote.Triple.Entry.{Vals, onEntry}
 use denote.Triple.Spec.{Meets, tripleOf}
 use denote.Triple.Table.{entered, cited}
 use denote.Triple.Walked.{says, Stays, gave-slice, stay-dropped, walkOf, goes-gave-slice, goes-dropped, ends-at, walked, walk-meets}
-use Rattle.book.proofs.Walk.{Promise, Learns, asks, Last, Said, Leaves, lends, gone}
+use Rattle.cursor.proofs.Walk.{Promise, Learns, asks, Last, Said, Leaves, lends, gone}
 use Rattle.gus.specs.declared.Part.{Part}
 use Rattle.gus.proofs.Part as P
 use Rattle.gus.proofs.Part.Laws as P′
 use Rattle.ilhuepatl.specs.declared.row.RowPlan.{RowPlan}
-use Rattle.ilhuepatl.specs.Answer.{over}
+use Rattle.laws.specs.Stores.{over}
 use Rattle.ilhuepatl.specs.Rows.{rowOutcomeOf}
 use Rattle.ilhuepatl.specs.RowPlans.{rowPlanOf, filledBy, filled-is}
 use Rattle.ilhuepatl.proofs.Inner.{inner-val, inner-is}

@@ -1,4 +1,4 @@
--- `ilhuepatl::row::planned_row` meets its contract, field by field. Assumes nothing.
+-- `ilhuepatl::row::planned_row` meets its contract, field by field.
 use borrow.Author.Needs.{needs}
 use Rattle.ilhuepatl.proofs.row.planned_row.Statement.{statement}
 use Rattle.ilhuepatl.proofs.row.planned_row.Tie as tie

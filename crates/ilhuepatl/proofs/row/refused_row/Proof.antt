@@ -1,4 +1,4 @@
--- `ilhuepatl::row::refused_row` meets its contract: its parts are those of `no_parts`. Assumes nothing.
+-- `ilhuepatl::row::refused_row` meets its contract: its parts are those of `no_parts`.
 use borrow.Author.Needs.{needs}
 use Rattle.ilhuepatl.proofs.row.refused_row.Statement.{statement}
 use Rattle.ilhuepatl.proofs.row.refused_row.Tie as tie

@@ -1,4 +1,4 @@
--- Runs of stores: `sets l k xs` is l with xs stored from place k on, and every other place as it was.
+-- Runs of stores: `sets l k xs` is l with xs stored from place k on, and every other place as it was. A run from the start on is `over xs l`.
 use mathlib.Core.Path.{_≡_, sym, ap, _∙_}
 use mathlib.Core.List.{List, [], _∷_, _++_}
 use Prim.Native.Nat.{ℕ, suc, _+_, _<_, _≤_}
@@ -7,7 +7,10 @@ use native.Mathlib.Numerals.{add-one}
 use native.Mathlib.Omega.{arith}
 use lib.ListN.{length, take, drop, getD, set}
 use lib.Seq.{sets, sets-eq, length-sets, take-suc}
-use Rattle.ilhuepatl.specs.Answer.{over}
+
+-- a row at the start of what was lent; "Later output bytes keep their values", and "records after the last part keep theirs"
+unfoldable pub over : {A : Type 0} → List A → List A → List A
+over row out = row ++ drop (length row) out
 
 -- what is stored next after xs is stored with them
 pub then-sets : {A : Type 0} (l : List A) (k m : ℕ) (xs ys : List A) → m ≡ k + length xs → sets (sets l k xs) m ys ≡ sets l k (xs ++ ys)
