@@ -1,0 +1,86 @@
+-- Numbers, lines and whole listings, computed: the book of 01's case 5, a circle at a later moment, and refused books.
+use mathlib.Core.Path.{_≡_, refl}
+use mathlib.Core.List.{List, [], _∷_, _++_}
+use Prim.Native.Nat.{ℕ}
+use lib.IntN.{negsuc}
+use Rattle.laws.specs.Count.{upto}
+use Rattle.laws.specs.Fill.{padded}
+use Rattle.curve.specs.Worth.{worthIn, worthAt}
+use Rattle.curve.specs.Density.{denserThan}
+use Rattle.job.specs.Job.{granted, ran, rolledBack}
+use Rattle.cursor.specs.Field.{valueAt, judged, readAt, fieldOf, ruleOf}
+use Rattle.book.specs.Rules.{rollbackOk, requestOk, ifRequested, leastRollback, modeOk, signedOf, aroundOk, lineOk}
+use Rattle.cursor.specs.Header.{headerOf}
+use Rattle.book.specs.Format.{rollbackRead, requestedResource, requestedRollback, requestRead, unheldRead, heldResource, entryRead, entryNext, heldRead, startRead, signedRead, pieceRead, pieceNext, piecesRead, endRead, curveRead, recordRead, recordNext, noRecords, recordsRead, tailRead, acceptedBook, refusedBook, bookOf}
+use Rattle.gus.specs.State.{afterAll}
+use Rattle.gus.specs.Waits.{holderFrom, chainTo, chainOf}
+use Rattle.gus.specs.Course.{passed, credited, denser, toEnd}
+use Rattle.gus.specs.Choice.{reckonOne, reckon, byDensity}
+use Rattle.gus.specs.Group.{toFree, grow, groupOf}
+use Rattle.gus.specs.Round.{better, consider, bestOf, rounds}
+use Rattle.gus.specs.Victims.{circleFrom, circleOf, lossOf, lesser, offer, victimOf, victimsTo, victimsOf, knotTo, knotOf, settled}
+use Rattle.gus.specs.Plan.{answerBy}
+use Rattle.opening.specs.Start.{heldFrom, jobFrom}
+use Rattle.planner.specs.Planned.{laidPlan, refusedPlan, answered, plannedOf}
+use Rattle.text.specs.Decimal.{ascii, digits, decimal, signed}
+use Rattle.text.specs.Lines.{victimWords, victimsLine, modeWord, partLine, partLines, closeLine, refusedLine}
+use Rattle.text.specs.Listing.{planText, textOf, listingOf}
+
+letters : ascii "hi -\n" ≡ 104 ∷ 105 ∷ 32 ∷ 45 ∷ 10 ∷ []
+unfolding ascii
+letters = refl
+
+nothing : decimal 0 ≡ 48 ∷ []
+unfolding decimal digits
+nothing = refl
+
+seven : decimal 7 ≡ 55 ∷ []
+unfolding decimal digits
+seven = refl
+
+ten : decimal 10 ≡ 49 ∷ 48 ∷ []
+unfolding decimal digits
+ten = refl
+
+most : decimal 4294967295 ≡ ascii "4294967295"
+unfolding decimal digits ascii
+most = refl
+
+one-below : signed (negsuc 0) ≡ ascii "-1"
+unfolding signed decimal digits ascii
+one-below = refl
+
+least : signed (negsuc 2147483647) ≡ ascii "-2147483648"
+unfolding signed decimal digits ascii
+least = refl
+
+two-victims : victimsLine (1 ∷ 5 ∷ []) ≡ ascii "victims 2 1 5\n"
+unfolding victimsLine victimWords decimal digits ascii
+two-victims = refl
+
+a-loss : closeLine (negsuc 21) 4000000000 1 ≡ ascii "total -22 end 4000000000 rounds 1\n"
+unfolding closeLine signed decimal digits ascii
+a-loss = refl
+
+-- ---- whole books
+
+-- the book of case 5, byte for byte as 01 has it
+abbrev case5 : List ℕ
+case5 =
+    (0 ∷ 66 ∷ 1 ∷ 2 ∷ 1 ∷ 0 ∷ 0 ∷ 0 ∷ 0 ∷ [])
+    ++ (0 ∷ 0 ∷ 6 ∷ 0 ∷ 2 ∷ 255 ∷ 0 ∷ 0 ∷ 0 ∷ 0 ∷ 1 ∷ 0 ∷ 0 ∷ 6 ∷ 0 ∷ 2 ∷ 1 ∷ 0 ∷ 0 ∷ 0 ∷ 0 ∷ 0 ∷ 0 ∷ 0 ∷ 0 ∷ 0 ∷ 0 ∷ 0 ∷ 0 ∷ 0 ∷ 100 ∷ [])
+    ++ (0 ∷ 0 ∷ 5 ∷ 0 ∷ 1 ∷ 0 ∷ 0 ∷ 5 ∷ 0 ∷ 1 ∷ 0 ∷ 1 ∷ 0 ∷ 0 ∷ 0 ∷ 0 ∷ 0 ∷ 0 ∷ 0 ∷ 22 ∷ 0 ∷ 0 ∷ 0 ∷ 0 ∷ 0 ∷ 100 ∷ [])
+
+-- a circle of two as in case 9, at the moment 300, with every rollback time the one given
+abbrev later : ℕ → ℕ → List ℕ
+later high low =
+    (0 ∷ 71 ∷ 1 ∷ 2 ∷ 2 ∷ 0 ∷ 0 ∷ 1 ∷ 44 ∷ [])
+    ++ (0 ∷ 0 ∷ 10 ∷ high ∷ low ∷ 1 ∷ 0 ∷ 4 ∷ high ∷ low ∷ 1 ∷ 0 ∷ 0 ∷ 10 ∷ high ∷ low ∷ 1 ∷ 0 ∷ 0 ∷ 0 ∷ 0 ∷ 0 ∷ 0 ∷ 0 ∷ 50 ∷ 0 ∷ 0 ∷ 0 ∷ 0 ∷ 3 ∷ 232 ∷ [])
+    ++ (0 ∷ 0 ∷ 10 ∷ high ∷ low ∷ 0 ∷ 0 ∷ 4 ∷ high ∷ low ∷ 1 ∷ 1 ∷ 0 ∷ 10 ∷ high ∷ low ∷ 1 ∷ 0 ∷ 0 ∷ 0 ∷ 0 ∷ 0 ∷ 0 ∷ 0 ∷ 20 ∷ 0 ∷ 0 ∷ 0 ∷ 0 ∷ 3 ∷ 232 ∷ [])
+
+listings : (listingOf case5 ≡ ascii "victims 0\npart 0 A 2 at 0\npart 1 N 5 at 2\ntotal 22 end 7 rounds 1\n")
+    × (listingOf (later 0 3) ≡ ascii "victims 1 1\npart 1 A 3 at 300\npart 0 N 10 at 303\ntotal 50 end 313 rounds 1\n")
+    × (listingOf (later 255 255) ≡ ascii "refused 10 at 0\n")
+    × (listingOf (0 ∷ 9 ∷ 1 ∷ 0 ∷ 33 ∷ 0 ∷ 0 ∷ 0 ∷ 0 ∷ []) ≡ ascii "refused 4 at 4\n")
+unfolding ascii digits decimal signed victimWords victimsLine modeWord partLine partLines closeLine refusedLine planText textOf listingOf valueAt judged readAt fieldOf ruleOf rollbackOk requestOk ifRequested leastRollback modeOk signedOf aroundOk lineOk headerOf rollbackRead requestedResource requestedRollback requestRead unheldRead heldResource entryRead entryNext heldRead startRead signedRead pieceRead pieceNext piecesRead endRead curveRead recordRead recordNext noRecords recordsRead tailRead acceptedBook refusedBook bookOf granted ran rolledBack worthIn worthAt denserThan afterAll holderFrom chainTo chainOf passed credited denser toEnd reckonOne reckon byDensity toFree grow groupOf better consider bestOf rounds circleFrom circleOf lossOf lesser offer victimOf victimsTo victimsOf knotTo knotOf settled answerBy upto padded heldFrom jobFrom laidPlan refusedPlan answered plannedOf
+listings = (refl, refl, refl, refl)

@@ -1,0 +1,10 @@
+pub mod Decimal
+pub mod Lines
+pub mod Listing
+pub mod Wrote
+pub mod Digits
+pub mod Signs
+pub mod Loops
+pub mod Fits
+pub mod Outcomes
+pub mod Example
