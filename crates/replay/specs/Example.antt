@@ -1,5 +1,6 @@
--- The book of case 5: it is accepted and has no knot, so demand 3 holds of it. The machine on its answer, and on parts that make no sense.
-use mathlib.Core.Path.{_≡_, refl, ap}
+-- The book of case 5: it is accepted and has no knot, so demand 3 holds of it. What is read of its answer, the machine on it, and on parts
+-- that make no sense; and the empty plan of case 2.
+use mathlib.Core.Path.{_≡_, refl, ap, _∙_}
 use mathlib.Core.Bool.{true, false, true≢false}
 use mathlib.Core.List.{List, [], _∷_}
 use Prim.Native.Nat.{ℕ}
@@ -14,9 +15,10 @@ use Rattle.job.specs.declared.Request.{Request}
 use Rattle.job.specs.Job.{granted, ran, rolledBack}
 use Rattle.book.specs.declared.Entry.{Entry}
 use Rattle.book.specs.declared.Book.{Book}
-use Rattle.book.specs.Field.{fieldOf, ruleOf, readAt, judged, valueAt}
+use Rattle.cursor.specs.Field.{fieldOf, ruleOf, readAt, judged, valueAt}
 use Rattle.book.specs.Rules.{rollbackOk, requestOk, ifRequested, leastRollback, modeOk, signedOf, aroundOk, lineOk}
-use Rattle.book.specs.Format.{noEntry, noRecord, noSpan, bookOf, refusedBook, acceptedBook, headerOf, recordsRead, noRecords, recordNext, recordRead, tailRead, rollbackRead, requestRead, requestedResource, requestedRollback, heldRead, entryNext, entryRead, heldResource, unheldRead, curveRead, piecesRead, pieceNext, pieceRead, startRead, signedRead, endRead}
+use Rattle.cursor.specs.Header.{headerOf}
+use Rattle.book.specs.Format.{noEntry, noRecord, noSpan, bookOf, refusedBook, acceptedBook, recordsRead, noRecords, recordNext, recordRead, tailRead, rollbackRead, requestRead, requestedResource, requestedRollback, heldRead, entryNext, entryRead, heldResource, unheldRead, curveRead, piecesRead, pieceNext, pieceRead, startRead, signedRead, endRead}
 use Rattle.gus.specs.State.{afterAll}
 use Rattle.gus.specs.Waits.{holderFrom, chainTo, chainOf}
 use Rattle.gus.specs.Course.{passed, credited, denser, toEnd}
@@ -27,11 +29,16 @@ use Rattle.gus.specs.Victims.{circleFrom, circleOf, lossOf, lesser, offer, vict
 use Rattle.gus.specs.Plan.{answerBy}
 use Rattle.opening.specs.Start.{heldFrom, jobFrom}
 use Rattle.opening.specs.Planned.{viewFrom, answerFrom}
+use Rattle.ilhuepatl.specs.declared.Verdict.{Verdict}
+use Rattle.ilhuepatl.specs.Calls.{outcomeOf}
 use Rattle.replay.specs.Machine.{MachineJob, Machine, nothing, withVictims, machineFrom, withRequest, stillHeld, payment, follow}
 use Rattle.replay.specs.View.{lists, holdOn, holderFrom as machineHolder}
 use Rattle.replay.specs.Moments.{doneBy}
 use Rattle.replay.specs.Sentences.{Demand3}
 use Rattle.replay.specs.Demand.{demand3}
+use Rattle.replay.specs.ReadBack.{readAnswer}
+use Rattle.replay.specs.Whole.{certain}
+use Rattle.replay.specs.Refuses.{Given, small, reader, knot, none, given-out}
 
 five : List ℕ
 five =
@@ -80,6 +87,22 @@ case5 = demand3 five (rw book-read) (rw book-read (omega (arith, knot-none)))
 answer : answerFrom book ≡ record { victims = []; plan = record { parts = partOf 0 true 2 ∷ partOf 1 false 5 ∷ []; rounds = 1; total = pos 22; end = 7 } }
 unfolding heldFrom jobFrom worthAt worthIn answerBy victimsOf victimsTo victimOf offer lesser lossOf circleOf circleFrom settled rounds bestOf consider better groupOf grow toFree byDensity reckon reckonOne toEnd denser denserThan passed credited chainOf chainTo holderFrom afterAll upto granted ran rolledBack
 answer = refl
+
+-- FROM BYTES TO BYTES AND BACK: what a reader finds in an output of 430 nines after the call
+abbrev nines : List ℕ
+nines = replicate 430 9
+
+unrefused : outcomeOf five nines .verdict .number ≡ 0
+unrefused = by (given-out five nines)
+  where
+    by : {v : Verdict} → Given five 430 430 v → v .number ≡ 0
+    by (small l) = absurd (omega arith)
+    by (reader l h) = ap (λ (b : Book). b .number) book-read
+    by (knot l e h) = absurd (omega (arith, rw book-read at h, knot-none))
+    by (none l e h) = refl
+
+read-back : readAnswer (outcomeOf five nines .out) ≡ record { victims = []; plan = record { parts = partOf 0 true 2 ∷ partOf 1 false 5 ∷ []; rounds = 1; total = pos 22; end = 7 } }
+read-back = certain five nines unrefused .answer .is ∙ ap answerFrom book-read ∙ answer
 
 -- THE MACHINE ON IT: where it starts,
 abbrev start : Machine
@@ -131,3 +154,15 @@ early d = true≢false (d .starts-free 0 0 (omega arith) refl)
 shared : Demand3 byDensity start atOnce → ⊥
 unfolding withVictims follow withRequest stillHeld payment lists doneBy
 shared d = let e : _≡_ {A = ℕ} 0 1 = d .one-holder 2 0 1 0 refl refl in omega arith
+
+-- CASE 2, and no parts: "an empty plan also breaks the end of demand 3 in case 2", since job 1 is left and its group is worth 40
+two : List ℕ
+two =
+    0 ∷ 61 ∷ 1 ∷ 2 ∷ 0 ∷ 0 ∷ 0 ∷ 0 ∷ 0
+    ∷ 0 ∷ 0 ∷ 10 ∷ 0 ∷ 1 ∷ 255 ∷ 0 ∷ 0 ∷ 0 ∷ 0 ∷ 0 ∷ 1 ∷ 0 ∷ 0 ∷ 0 ∷ 0 ∷ 0 ∷ 0 ∷ 0 ∷ 50 ∷ 0 ∷ 0 ∷ 0 ∷ 0 ∷ 3 ∷ 232
+    ∷ 0 ∷ 0 ∷ 4 ∷ 0 ∷ 1 ∷ 255 ∷ 0 ∷ 0 ∷ 0 ∷ 0 ∷ 0 ∷ 1 ∷ 0 ∷ 0 ∷ 0 ∷ 0 ∷ 0 ∷ 0 ∷ 0 ∷ 40 ∷ 0 ∷ 0 ∷ 0 ∷ 0 ∷ 3 ∷ 232
+    ∷ []
+
+empty-plan : Demand3 byDensity (machineFrom (bookOf two) []) (stop 0) → ⊥
+unfolding two bookOf refusedBook acceptedBook headerOf recordsRead noRecords recordNext recordRead tailRead rollbackRead requestRead requestedResource requestedRollback heldRead entryNext entryRead heldResource unheldRead curveRead piecesRead pieceNext pieceRead startRead signedRead endRead fieldOf ruleOf readAt judged valueAt upto rollbackOk requestOk ifRequested leastRollback modeOk signedOf aroundOk lineOk withVictims follow lists holdOn machineHolder worthAt worthIn groupOf grow toFree byDensity reckon reckonOne toEnd denser denserThan passed credited chainOf chainTo
+empty-plan d = true≢false (d .none-worthwhile 1 refl)

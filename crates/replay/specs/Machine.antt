@@ -1,4 +1,4 @@
--- THE BARE MACHINE of demand 3: it follows any list of parts and checks none. Assumes nothing.
+-- THE BARE MACHINE of demand 3: it follows any list of parts and checks none.
 -- It knows the clock and, of each job, the times left, the request, the holds and the curve. Of the planner it has only the parts;
 -- the never mark and the rest of 01 that it needs stand here once more.
 use mathlib.Core.Bool.{Bool, true, false, cond, _&&_, _||_}

@@ -1,4 +1,4 @@
--- What of a row of parts is done at a moment, and what its grants add. Assumes nothing.
+-- What of a row of parts is done at a moment, and what its grants add.
 use mathlib.Core.Path.{_≡_, refl}
 use mathlib.Core.Bool.{Bool, true, false, cond}
 use mathlib.Core.List.{List, [], _∷_}

@@ -1,4 +1,4 @@
--- DEMAND 3, sentence by sentence, of a machine m that follows a plan: all of it is said of the machine's own jobs. Assumes nothing.
+-- DEMAND 3, sentence by sentence, of a machine m that follows a plan: all of it is said of the machine's own jobs.
 use mathlib.Core.Path.{_≡_}
 use mathlib.Core.Bool.{true, false}
 use mathlib.Core.List.{List}

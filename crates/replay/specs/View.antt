@@ -1,4 +1,4 @@
--- What the machine's own jobs show: who holds what, who is left, and what a round sees of them. Assumes nothing.
+-- What the machine's own jobs show: who holds what, who is left, and what a round sees of them.
 use mathlib.Core.Bool.{Bool, true, false, cond, _&&_, _||_}
 use mathlib.Core.List.{List, [], _∷_}
 use Prim.Native.Nat.{ℕ, suc}
