@@ -1,4 +1,5 @@
-//! Links the proved planner's archive, or says that it is missing.
+//! Links the proved planner's archive where it can be, or says that it is
+//! missing.
 
 use std::path::Path;
 
@@ -11,7 +12,12 @@ fn main() {
     // at each build.
     println!("cargo::rerun-if-changed={FOLDER}/libilhuepatl.a");
 
-    if Path::new(FOLDER).join("libilhuepatl.a").exists() {
+    // The machine that is built for, not the one that builds.
+    let for_x86_64 = std::env::var("CARGO_CFG_TARGET_ARCH").is_ok_and(|arch| arch == "x86_64");
+    if !for_x86_64 {
+        // The archive is for x86-64 alone, whether it is there or not.
+        println!("cargo::rustc-cfg=no_archive");
+    } else if Path::new(FOLDER).join("libilhuepatl.a").exists() {
         let folder = Path::new(FOLDER)
             .canonicalize()
             .expect("a folder with a file in it has a full path");

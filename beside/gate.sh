@@ -3,23 +3,36 @@
 # says, and a fixed row of random books must bring no difference between the two
 # planners. Every line of output begins with "beside: ", and a failure shows in
 # the exit status. It can't be the gate's last command, since the gate's last
-# line is rt's own (README.md says how .ci/run keeps it the last one).
+# line is rt's own, which .ci/run keeps and prints at its end.
 set -euo pipefail
 cd "$(dirname "$0")/.."
 
-# About a minute's worth of books on a machine that is not busy.
+# About a minute's worth of books on a machine that is not busy: by the archive
+# where it can be linked, and elsewhere by batches for the corpus program.
 count=400000
+batches_beside_archive=20
+batches_alone=400
 seed=1
+machine=$(uname -m)
 
 run() {
     cargo run --quiet --release --offline --manifest-path beside/Cargo.toml --bin "$@"
 }
 
 {
-    # An archive left from an earlier state must not be compared, so it is made
-    # here. It costs little where rt has just proved the crate.
-    rt staticlib ilhuepatl
+    # An archive or a program left from an earlier state must not be compared,
+    # so they are made here. It costs little where rt has just proved the crates.
+    rt check corpus
+    if [ "$machine" = x86_64 ]; then
+        rt staticlib ilhuepatl
+    fi
     cargo build --release --offline --manifest-path beside/Cargo.toml
     run beside-corpus -- --check
-    run beside-compare -- "$count" "$seed" --replay
+    if [ "$machine" = x86_64 ]; then
+        run beside-compare -- "$count" "$seed" --replay
+        run beside-batch -- "$batches_beside_archive" "$seed"
+    else
+        echo "the archive is for x86-64 and can't be linked on $machine: the corpus program is compared instead"
+        run beside-batch -- "$batches_alone" "$seed"
+    fi
 } 2>&1 | sed -u 's/^/beside: /'

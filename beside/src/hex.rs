@@ -10,3 +10,13 @@ pub fn hex(bytes: &[u8]) -> String {
     }
     text
 }
+
+/// The bytes of such a text, if it is one.
+pub fn bytes(text: &[u8]) -> Option<Vec<u8>> {
+    let digit = |digit: u8| char::from(digit).to_digit(16);
+    let byte = |pair: &[u8]| match pair {
+        &[high, low] => Some((16 * digit(high)? + digit(low)?) as u8),
+        _ => None,
+    };
+    text.chunks(2).map(byte).collect()
+}

@@ -33,8 +33,8 @@ mod face {
     }
 }
 
-/// The build found no archive. Programs that don't ask the proved planner work
-/// all the same.
+/// The build linked no archive. Programs that don't ask the proved planner by
+/// it work all the same.
 #[cfg(no_archive)]
 mod face {
     pub unsafe fn ilhuepatl_plan(_: *const u8, _: usize, _: *mut u8, _: usize) -> u64 {
@@ -46,11 +46,14 @@ mod face {
     }
 
     fn missing() -> ! {
-        eprintln!(
-            "this program was built without the proved planner: \
-             target/staticlib/libilhuepatl.a was missing. Run \
+        let why = if cfg!(target_arch = "x86_64") {
+            "target/staticlib/libilhuepatl.a was missing. Run \
              `rt staticlib ilhuepatl` at the repository root and build again."
-        );
+        } else {
+            "its archive is for x86-64 alone. On this machine beside-batch \
+             compares the two planners."
+        };
+        eprintln!("this program was built without the proved planner: {why}");
         std::process::exit(2)
     }
 }

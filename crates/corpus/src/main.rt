@@ -1,53 +1,19 @@
-// The proved planner on the corpus: one line for each book of the file `books`, held to what the second planner says of it.
-// In the file each book stands behind its byte count (2 bytes), so that damaged books can stand there too.
-ghost use Prim.Native.Nat.{_<_};
-use libc::STDOUT_FILENO;
+// The proved planner on a file of books: what each public call says of each book, held to what the second planner says of it.
+// In the file `books` each book stands behind its byte count (2 bytes), so that damaged books can stand there too.
+mod answer;
+mod listing;
+mod print;
+mod record;
+mod row;
 
-fn text(s: &[u8]) {
-    io::write_all(STDOUT_FILENO, s);
-}
+use crate::answer::wide;
 
-fn number(n: u64) {
-    io::print_decimal(STDOUT_FILENO, n);
-}
-
-fn wide(n: u8) -> usize
-    ensures { λ r. ⌜ r < 256 ⌝ }
-{
-    n as usize
-}
-
-fn refused(code: u8, place: usize) {
-    text(b" refused ");
-    number(code as u64);
-    text(b" at ");
-    number(place as u64);
-    text(b"\n");
-}
-
-// The first n bytes of an answer, in hex.
-fn answer(out: [u8; 430], n: usize) {
-    text(b" answer ");
-    let mut i: usize = 0;
-    while i < 430 {
-        if i < n {
-            io::print_hex(STDOUT_FILENO, out[i] as u64, 2);
-        }
-        i += 1;
-    }
-    text(b"\n");
-}
-
-fn line(index: u64, book: &[u8]) {
-    let mut out = [0u8; 430];
-    let v = ilhuepatl::calls::plan_bytes(book, &mut out);
-    number(index);
-    if 0 < v.number {
-        refused(v.number, v.place);
-        return;
-    }
-    let n = wide(out[0]) * 256 + wide(out[1]);
-    answer(out, n);
+// The record question is asked for job 0, 1, 2, 3, 4, 0 and so on.
+fn book_lines(index: u64, bytes: &[u8]) {
+    answer::answer_line(index, bytes);
+    row::row_line(index, bytes);
+    record::record_line(index, bytes);
+    listing::listing_lines(bytes);
 }
 
 fn lines(all: &[u8]) {
@@ -60,7 +26,7 @@ fn lines(all: &[u8]) {
             return;
         }
         let end = start + n;
-        line(index, &all[start..end]);
+        book_lines(index, &all[start..end]);
         place = end;
         index = std::num::wrapping_add_u64(index, 1);
     }

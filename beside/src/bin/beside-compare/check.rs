@@ -1,12 +1,12 @@
 //! Everything that is compared about one book.
 
-use crate::difference::{same, Difference};
 use crate::questions::job_numbers;
 use beside::code;
-use beside::decode::decode;
+use beside::difference::{same, Difference};
 use beside::fence::Fenced;
 use beside::hex::hex;
 use beside::proved;
+use beside::replayed::{plan_of, replayed};
 use second::answer::MOST_BYTES;
 use second::{Plan, Refusal};
 
@@ -151,25 +151,4 @@ impl Checker {
 /// with the very value that it had is still found.
 fn pattern(at: usize, length: usize) -> u8 {
     (at * 7 + length * 31 + 3) as u8
-}
-
-/// The plan in the proved planner's own bytes.
-fn plan_of(output: &[u8]) -> Result<Plan, Difference> {
-    match decode(output) {
-        Ok((plan, _)) => Ok(plan),
-        Err(fault) => Err(Difference {
-            question: "reading the answer back".to_string(),
-            second: "gave the same bytes".to_string(),
-            proved: fault,
-        }),
-    }
-}
-
-/// Demand 3 on the second planner's machine.
-fn replayed(book: &[u8], plan: &Plan) -> Result<(), Difference> {
-    second::check_demand3(book, plan).map_err(|fault| Difference {
-        question: "demand 3".to_string(),
-        second: "gave the same plan".to_string(),
-        proved: format!("{fault} in {plan:?}"),
-    })
 }

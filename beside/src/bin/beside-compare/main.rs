@@ -5,16 +5,13 @@
 mod arguments;
 mod check;
 mod crash;
-mod difference;
 mod questions;
-mod tally;
 
-use beside::hex::hex;
-use check::{Checker, Met};
-use difference::Difference;
-use second::make::{self, Dice};
+use beside::difference::caught;
+use beside::made::made;
+use beside::tally::Tally;
+use check::Checker;
 use std::time::Instant;
-use tally::Tally;
 
 fn main() {
     let arguments = arguments::read();
@@ -31,18 +28,12 @@ fn main() {
     let mut tally = Tally::default();
     let begun = Instant::now();
     for at in 0..count {
-        let made = make(seed, at);
+        let made = made(seed, at);
         crash::watch(&made.book);
-        match checked(&mut checker, &made.book) {
-            Ok(met) => tally.add(made.kind, &met),
+        match caught(|| checker.check(&made.book)) {
+            Ok(met) => tally.add(made.kind, &met.planned, met.questions),
             Err(difference) => {
-                println!(
-                    "difference at book {at} of seed {seed} ({}, its own seed {}): {}",
-                    made.kind, made.seed, difference.question
-                );
-                println!("second planner: {}", difference.second);
-                println!("proved planner: {}", difference.proved);
-                println!("book of {} bytes: {}", made.book.len(), hex(&made.book));
+                difference.print(seed, &made);
                 std::process::exit(1);
             }
         }
@@ -56,36 +47,4 @@ fn main() {
     }
     tally.print();
     println!("no difference in {count} books from seed {seed}");
-}
-
-struct Made {
-    kind: &'static str,
-    seed: u64,
-    book: Vec<u8>,
-}
-
-/// The book at a place of a seed's row: seven in ten valid, two damaged, one
-/// noise. The row begins at a number drawn from the seed, so that the rows of
-/// two seeds that stand side by side have no book in common.
-fn make(seed: u64, at: u64) -> Made {
-    let seed = Dice::new(seed).roll().wrapping_add(at);
-    let (kind, book) = match at % 10 {
-        0..=6 => ("valid", make::valid(seed)),
-        7..=8 => ("damaged", make::damaged(seed)),
-        _ => ("noise", make::noise(seed)),
-    };
-    Made { kind, seed, book }
-}
-
-/// A panic (a sum that leaves its type, say) is shown with its book, like any
-/// difference.
-fn checked(checker: &mut Checker, book: &[u8]) -> Result<Met, Difference> {
-    let caught = std::panic::AssertUnwindSafe(|| checker.check(book));
-    std::panic::catch_unwind(caught).unwrap_or_else(|_| {
-        Err(Difference {
-            question: "a call of the second planner panicked".to_string(),
-            second: "the panic's message stands above".to_string(),
-            proved: "not asked any further".to_string(),
-        })
-    })
 }

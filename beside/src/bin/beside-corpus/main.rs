@@ -15,8 +15,9 @@ mod random;
 mod refusals;
 mod ties;
 mod twelve;
-mod write;
 
+use beside::books::{bytes_with_count, data, MOST_BYTES};
+use beside::printed::stdout;
 use std::collections::HashSet;
 use std::io;
 use std::path::Path;
@@ -24,9 +25,6 @@ use std::path::Path;
 const DATA: &str = "crates/corpus/data/books";
 const STDOUT: &str = "crates/corpus/stdout";
 const KEPT: &str = "fuzz/kept";
-
-/// The gate's program has room for so much.
-const MOST_BYTES: usize = 60_000;
 
 fn main() {
     let words: Vec<String> = std::env::args().skip(1).collect();
@@ -91,7 +89,7 @@ impl Corpus {
         let (count, bytes) = (self.books.len(), self.bytes);
         for book in books {
             if self.seen.insert(book.clone()) {
-                self.bytes += book.len() + 2;
+                self.bytes += bytes_with_count(&book);
                 self.books.push(book);
             }
         }
@@ -100,19 +98,23 @@ impl Corpus {
     }
 }
 
+fn lent(books: &[Vec<u8>]) -> impl Iterator<Item = &[u8]> {
+    books.iter().map(Vec::as_slice)
+}
+
 fn write(books: &[Vec<u8>]) -> io::Result<()> {
     for path in [DATA, STDOUT] {
         std::fs::create_dir_all(Path::new(path).parent().expect("both stand in a folder"))?;
     }
-    std::fs::write(DATA, write::data(books))?;
-    std::fs::write(STDOUT, write::stdout(books))?;
+    std::fs::write(DATA, data(lent(books)))?;
+    std::fs::write(STDOUT, stdout(lent(books)))?;
     println!("written: {DATA} and {STDOUT}");
     Ok(())
 }
 
 fn check(books: &[Vec<u8>]) -> io::Result<()> {
-    let same = std::fs::read(DATA)? == write::data(books)
-        && std::fs::read(STDOUT)? == write::stdout(books).as_bytes();
+    let same = std::fs::read(DATA)? == data(lent(books))
+        && std::fs::read(STDOUT)? == stdout(lent(books)).as_bytes();
     if !same {
         println!("{DATA} or {STDOUT} is not what would be written: run beside-corpus");
         std::process::exit(1);

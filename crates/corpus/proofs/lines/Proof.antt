@@ -49,17 +49,17 @@ returns c = search needs
 add-end : tie.Need-add-end Inv-loop μ-loop
 add-end c = search needs
 
-sub-line : tie.Need-sub-line Inv-loop μ-loop
-sub-line c = search needs
+sub-book-lines : tie.Need-sub-book-lines Inv-loop μ-loop
+sub-book-lines c = search needs
 
-part-line-start : tie.Need-part-line-start Inv-loop μ-loop
-part-line-start c = search needs
+part-book-lines-start : tie.Need-part-book-lines-start Inv-loop μ-loop
+part-book-lines-start c = search needs
 
-part-line-end : tie.Need-part-line-end Inv-loop μ-loop
-part-line-end c = search needs
+part-book-lines-end : tie.Need-part-book-lines-end Inv-loop μ-loop
+part-book-lines-end c = search needs
 
-line-requires : tie.Need-line-requires Inv-loop μ-loop
-line-requires c κs = search needs
+book-lines-requires : tie.Need-book-lines-requires Inv-loop μ-loop
+book-lines-requires c κs = search needs
 
 wrapping-add-u64-requires : tie.Need-wrapping-add-u64-requires Inv-loop μ-loop
 wrapping-add-u64-requires c κs = search needs
@@ -92,10 +92,10 @@ lines-spec =
     sub-if1
     returns
     add-end
-    sub-line
-    part-line-start
-    part-line-end
-    line-requires
+    sub-book-lines
+    part-book-lines-start
+    part-book-lines-end
+    book-lines-requires
     wrapping-add-u64-requires
     loop-less
     loop-again

@@ -1,7 +1,7 @@
 //! What was met, so that one can see whether the books were worth making.
 
-use crate::check::Met;
-use second::refusal;
+use second::refusal::{self, Refusal};
+use second::Plan;
 
 #[derive(Default)]
 pub struct Tally {
@@ -18,13 +18,15 @@ pub struct Tally {
 }
 
 impl Tally {
-    pub fn add(&mut self, kind: &'static str, met: &Met) {
+    /// Counts one book: what it was planned as, and how many record questions
+    /// were asked about it.
+    pub fn add(&mut self, kind: &'static str, planned: &Result<Plan, Refusal>, questions: u64) {
         match self.kinds.iter_mut().find(|(name, _)| *name == kind) {
             Some((_, count)) => *count += 1,
             None => self.kinds.push((kind, 1)),
         }
-        self.questions += met.questions;
-        let plan = match &met.planned {
+        self.questions += questions;
+        let plan = match planned {
             Ok(plan) => plan,
             Err(refusal) => {
                 self.refused[usize::from(refusal.number)] += 1;
