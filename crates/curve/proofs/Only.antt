@@ -1,14 +1,11 @@
 -- What each public function promises leaves one result: stated over its own contract, as the check reads it.
-use mathlib.Core.Path.{_≡_, sym, _∙_}
+use mathlib.Core.Path.{sym, _∙_}
 use contract.Lifetimes.{Lfts}
+use Rattle.laws.specs.Only.{Only}
 use Rattle.curve.proofs.line_at.Reads as line-at
 use Rattle.curve.proofs.worth.Reads as worth
 use Rattle.curve.proofs.worth_of.Reads as worth-of
 use Rattle.curve.proofs.denser.Reads as denser
-
--- two results that are allowed for the same arguments are the same, whatever the arguments are afterwards
-abbrev Only : {A R S : Type 0} → (A → R → S → Type 0) → Type 0
-Only {A} {R} {S} allowed = (a : A) (r r′ : R) (s s′ : S) → allowed a r s → allowed a r′ s′ → r ≡ r′
 
 line-at-only : Only (line-at.Post tt)
 line-at-only a r r′ s s′ p q = p ∙ sym q

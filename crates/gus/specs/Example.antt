@@ -22,7 +22,7 @@ use Rattle.gus.specs.Choice.{reckonOne, reckon, byDensity}
 use Rattle.gus.specs.Group.{toFree, partOf, grow, groupOf}
 use Rattle.gus.specs.Round.{better, consider, bestOf, rounds}
 use Rattle.gus.specs.Victims.{circleFrom, circleOf, lossOf, lesser, offer, victimOf, victimsTo, victimsOf, knotTo, knotOf, settled}
-use Rattle.gus.specs.Plan.{answerBy, answerOf}
+use Rattle.gus.specs.Plan.{answerTo, answerOf}
 
 abbrev none : List Held
 none = replicate 32 free
@@ -72,6 +72,8 @@ twelve =
 
 record Cases : Type 0 where
   case2 : Plans (50 ∷ 40 ∷ []) two [] (partOf 1 false 4 ∷ partOf 0 false 10 ∷ []) 2 90 14
+  -- by one round alone
+  first2 : answerTo 1 byDensity (flat (50 ∷ 40 ∷ [])) (book two) 0 ≡ record { victims = []; plan = record { parts = partOf 1 false 4 ∷ []; rounds = 1; total = pos 40; end = 4 } }
   case5 : Plans (0 ∷ 22 ∷ []) (five 6 2) [] (partOf 0 true 2 ∷ partOf 1 false 5 ∷ []) 1 22 7
   case6 : Plans (30 ∷ 22 ∷ []) (five 20 1) [] (partOf 0 false 6 ∷ partOf 1 false 5 ∷ partOf 0 false 14 ∷ []) 2 52 25
   case7 : Plans (0 ∷ 22 ∷ []) (five 6 6) [] (partOf 0 false 6 ∷ partOf 1 false 5 ∷ []) 1 22 11
@@ -84,9 +86,10 @@ record Cases : Type 0 where
   behind-job-0 : victimsOf (viewOf (flat (7 ∷ 50 ∷ 20 ∷ [])) (book (job 1 1 noRequest none ∷ nine 3 1 3 1))) 0 ≡ 2 ∷ []
 
 cases : Cases
-unfolding answerBy victimsOf victimsTo victimOf offer lesser lossOf circleOf circleFrom knotOf knotTo settled rounds bestOf consider better groupOf grow toFree byDensity reckon reckonOne toEnd denser denserThan passed credited chainOf chainTo holderFrom afterAll upto granted ran rolledBack
+unfolding answerTo victimsOf victimsTo victimOf offer lesser lossOf circleOf circleFrom knotOf knotTo settled rounds bestOf consider better groupOf grow toFree byDensity reckon reckonOne toEnd denser denserThan passed credited chainOf chainTo holderFrom afterAll upto granted ran rolledBack
 cases = record {
   case2 = refl;
+  first2 = refl;
   case5 = refl;
   case6 = refl;
   case7 = refl;

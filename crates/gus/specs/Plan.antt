@@ -11,11 +11,15 @@ pub record Answer : Type 0 where
   pub victims : List ℕ
   pub plan : Plan
 
--- the plan after the victims went into rollback; no more rounds than jobs, since each ends one
-unfoldable pub answerBy : Way → Pay → List Job → ℕ → Answer
-answerBy way pay js now =
+-- the plan of at most n rounds after the victims went into rollback
+unfoldable pub answerTo : ℕ → Way → Pay → List Job → ℕ → Answer
+answerTo n way pay js now =
     let victims = victimsOf (viewOf pay js) now in
-    record { victims = victims; plan = rounds 32 way pay (settled js victims) now }
+    record { victims = victims; plan = rounds n way pay (settled js victims) now }
+
+-- no more rounds than jobs, since each ends one
+abbrev pub answerBy : Way → Pay → List Job → ℕ → Answer
+answerBy = answerTo 32
 
 -- 01's way
 abbrev pub answerOf : Pay → List Job → ℕ → Answer

@@ -5,7 +5,7 @@ use Rattle.job.specs.declared.Job.{Job}
 use Rattle.gus.specs.View.{Pay, viewOf}
 use Rattle.gus.specs.Choice.{Way}
 use Rattle.gus.specs.Victims.{knotOf, settled}
-use Rattle.gus.specs.Plan.{answerBy}
+use Rattle.gus.specs.Plan.{answerTo, answerBy}
 use Rattle.invariants.specs.Sound.{Sound}
 use Rattle.invariants.specs.Waiting.{Ready}
 use Rattle.invariants.specs.Fair.{Fair}
@@ -18,9 +18,9 @@ module _ (pay : Pay) {way : Way} {js : List Job} (now : ℕ) (f : Fair way) (s :
   victims = answerBy way pay js now .victims
 
   pub answer-ready : Ready (settled js (answerBy way pay js now .victims))
-  unfolding answerBy
+  unfolding answerTo
   answer-ready = ready-settled pay now s none
 
   pub answer-replayed : Replayed way pay (settled js (answerBy way pay js now .victims)) now (answerBy way pay js now .plan)
-  unfolding answerBy
+  unfolding answerTo
   answer-replayed = replayed pay f 32 (settled js victims) now (count-most (answer-ready .sound)) answer-ready

@@ -8,4 +8,5 @@ pub mod Search
 pub mod Walk
 pub mod Circle
 pub mod Rewire
+pub mod Only
 pub mod Example

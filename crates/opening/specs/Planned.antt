@@ -14,7 +14,7 @@ use Rattle.gus.specs.State.{afterAll}
 use Rattle.gus.specs.View.{View, viewOf}
 use Rattle.gus.specs.Choice.{byDensity}
 use Rattle.gus.specs.Victims.{victimsOf, knotOf, settled}
-use Rattle.gus.specs.Plan.{Answer, answerBy, answerOf}
+use Rattle.gus.specs.Plan.{Answer, answerTo, answerOf}
 use Rattle.invariants.specs.Waiting.{Ready}
 use Rattle.invariants.specs.Fair.{by-density-fair}
 use Rattle.invariants.specs.Replay.{Replay, replay-ready}
@@ -69,11 +69,11 @@ module _ {b : Book} (g : Good b) (none : 32 ≤ knotOf (viewFrom b) (b .now)) wh
   few = few-left g (startFrom b) (settled-falls (jobsFrom b) (victimsOf (viewFrom b) (b .now)))
 
   runs : Replayed byDensity (payFrom b) (startFrom b) (b .now) (answerFrom b .plan)
-  unfolding answerBy
+  unfolding answerTo
   runs = replayed (payFrom b) by-density-fair 32 (startFrom b) (b .now) (omega (arith, few, g .jobs)) starts
 
   few-victims : length (answerFrom b .victims) ≤ 32
-  unfolding answerBy
+  unfolding answerTo
   few-victims = victims-few (viewFrom b) (b .now)
 
   small-total : natAbs (answerFrom b .plan .total) ≤ 32000000

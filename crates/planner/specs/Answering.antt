@@ -11,10 +11,10 @@ use Rattle.book.specs.declared.Book.{Book}
 use Rattle.cursor.specs.Refusal.{KNOT}
 use Rattle.book.specs.Format.{bookOf}
 use Rattle.gus.specs.View.{Pay, View, viewOf}
-use Rattle.gus.specs.Choice.{byDensity}
+use Rattle.gus.specs.Choice.{Way}
 use Rattle.gus.specs.Round.{rounds}
 use Rattle.gus.specs.Victims.{victimsOf, knotOf, settled}
-use Rattle.gus.specs.Plan.{answerBy}
+use Rattle.gus.specs.Plan.{answerTo}
 use Rattle.invariants.specs.Sound.{Sound}
 use Rattle.invariants.specs.Start.{ready-settled}
 use Rattle.invariants.specs.Settled.{holder-settled}
@@ -40,7 +40,7 @@ use Rattle.planner.specs.Handing.{modest-without, same-listed, listed-vi
 use Rattle.planner.specs.Holding.{Holding, agreeing}
 use Rattle.planner.specs.Fitting.{Sane}
 use Rattle.planner.specs.Staged.{Rounded}
-use Rattle.planner.specs.Planned.{laidPlan, refusedPlan, answered, plannedOf}
+use Rattle.planner.specs.Planned.{laidPlan, refusedPlan, answeredTo, plannedTo}
 
 -- the jobs of an accepted book, before the victims are found
 pub record Accepted (pay : Pay) (s : State) (moment : ℕ) : Type 0 where
@@ -79,9 +79,9 @@ module _ (pay : Pay) (s : State) (now : ℕ) {v : Victims} (e : v ≡ listed (vi
   pub victims-handed : Handed v
   victims-handed = rw e (listed-handed (viewOf pay (s .jobs)) now)
 
-  pub knotted : {r : Planned} → v .knot < 32 → r ≡ refusedPlan KNOT (v .knot) → r ≡ answered pay (s .jobs) now
-  unfolding answered listed
-  knotted h q = let k = ap (λ (x : Victims). x .knot) e in rw (lt-ltb _ 32 (rw k at h), answered) (q ∙ ap (refusedPlan KNOT) k)
+  pub knotted : (n : ℕ) (way : Way) {r : Planned} → v .knot < 32 → r ≡ refusedPlan KNOT (v .knot) → r ≡ answeredTo n way pay (s .jobs) now
+  unfolding answeredTo listed
+  knotted n way h q = let k = ap (λ (x : Victims). x .knot) e in rw (lt-ltb _ 32 (rw k at h), answeredTo) (q ∙ ap (refusedPlan KNOT) k)
 
   module _ (a : Accepted pay s now) (none : 32 ≤ v .knot) {js : List Job} (q : js ≡ settled (s .jobs) (victimsIn v)) where
     settled-is : js ≡ settled (s .jobs) (victimsOf (viewOf pay (s .jobs)) now)
@@ -99,11 +99,11 @@ module _ (pay : Pay) (s : State) (now : ℕ) {v : Victims} (e : v ≡ listed (vi
       worth = a .worth;
     })
 
-    pub planned-is : {t : Stage} {r : Planned} → Rounded (rounds 32 byDensity pay js now) t → r ≡ planIn v t → r ≡ answered pay (s .jobs) now
-    unfolding answered laidPlan answerBy listed
-    planned-is {t} d p =
-        let z : Rounded (rounds 32 byDensity pay (settled (s .jobs) (victimsOf (viewOf pay (s .jobs)) now)) now) t = rw settled-is at d in
-        rw (le-ltb (knotOf (viewOf pay (s .jobs)) now) 32 free, answered)
+    pub planned-is : (n : ℕ) (way : Way) {t : Stage} {r : Planned} → Rounded (rounds n way pay js now) t → r ≡ planIn v t → r ≡ answeredTo n way pay (s .jobs) now
+    unfolding answeredTo laidPlan answerTo listed
+    planned-is n way {t} d p =
+        let z : Rounded (rounds n way pay (settled (s .jobs) (victimsOf (viewOf pay (s .jobs)) now)) now) t = rw settled-is at d in
+        rw (le-ltb (knotOf (viewOf pay (s .jobs)) now) 32 free, answeredTo)
         (p ∙ (λ j. record {
           number = 0;
           place = 0;
@@ -133,9 +133,9 @@ pub taken : {b b′ : Book} {jobs : List Job} {starts : List ℕ} {values slopes
 taken e j f = rw (← e) (record { number = refl; place = refl; now = refl; jobs = j; holders = refl; curves = f })
 
 module _ (s : List ℕ) {o : Opened} (t : Taken (bookOf s) o) where
-  pub refused : {r : Planned} → 0 < o .number → r ≡ refusedPlan (o .number) (o .place) → r ≡ plannedOf s
-  unfolding plannedOf
-  refused h q = rw (lt-ltb 0 (bookOf s .number) (omega (arith, t .number)), plannedOf) (q ∙ (λ j. refusedPlan (t .number j) (t .place j)))
+  pub refused : (n : ℕ) (way : Way) {r : Planned} → 0 < o .number → r ≡ refusedPlan (o .number) (o .place) → r ≡ plannedTo n way s
+  unfolding plannedTo
+  refused n way h q = rw (lt-ltb 0 (bookOf s .number) (omega (arith, t .number)), plannedTo) (q ∙ (λ j. refusedPlan (t .number j) (t .place j)))
 
   module _ (h : o .number ≤ 0) where
     pay-is : paid (o .starts) (o .values) (o .slopes) (o .counts) (o .ends) ≡ payFrom (bookOf s)
@@ -154,6 +154,6 @@ module _ (s : List ℕ) {o : Opened} (t : Taken (bookOf s) o) where
           now = omega (arith, t .now, g .now);
         }
 
-    pub accepted : {r : Planned} → r ≡ answered (paid (o .starts) (o .values) (o .slopes) (o .counts) (o .ends)) (o .state .jobs) (o .now) → r ≡ plannedOf s
-    unfolding plannedOf
-    accepted q = rw (le-ltb 0 (bookOf s .number) (omega (arith, t .number)), plannedOf) (q ∙ (λ j. answered (pay-is j) (t .jobs j) (t .now j)))
+    pub accepted : (n : ℕ) (way : Way) {r : Planned} → r ≡ answeredTo n way (paid (o .starts) (o .values) (o .slopes) (o .counts) (o .ends)) (o .state .jobs) (o .now) → r ≡ plannedTo n way s
+    unfolding plannedTo
+    accepted n way q = rw (le-ltb 0 (bookOf s .number) (omega (arith, t .number)), plannedTo) (q ∙ (λ j. answeredTo n way (pay-is j) (t .jobs j) (t .now j)))

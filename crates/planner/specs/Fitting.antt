@@ -12,14 +12,14 @@ use Rattle.job.specs.declared.Job.{Job}
 use Rattle.gus.specs.declared.Part.{Part}
 use Rattle.gus.specs.declared.Course.{Course}
 use Rattle.gus.specs.declared.Best.{Best}
-use Rattle.gus.specs.View.{Pay, viewOf}
+use Rattle.gus.specs.View.{Pay, View, viewOf}
 use Rattle.gus.specs.Course.{denser}
-use Rattle.gus.specs.Choice.{byDensity}
+use Rattle.gus.specs.Choice.{Way}
 use Rattle.gus.specs.Group.{Group}
-use Rattle.gus.specs.Round.{worthwhile}
+use Rattle.gus.specs.Round.{bestOf, worthwhile}
 use Rattle.invariants.specs.Sound.{Member}
 use Rattle.invariants.specs.Waiting.{Ready}
-use Rattle.invariants.specs.Fair.{by-density-fair}
+use Rattle.invariants.specs.Fair.{Fair}
 use Rattle.invariants.specs.Runs.{Runs, last, next, group-runs}
 use Rattle.invariants.specs.Replay.{runs-replay, replay-ready}
 use Rattle.invariants.specs.Left.{countLeft, count-most, runs-count}
@@ -31,10 +31,10 @@ use Rattle.opening.specs.Modest.{Modest, modest}
 use Rattle.opening.specs.Small.{small-after-all}
 use Rattle.planner.specs.declared.State.{State}
 use Rattle.planner.specs.declared.Stage.{Stage}
-use Rattle.planner.specs.Limits.{small-group}
+use Rattle.planner.specs.Round.{round-won, some-won, small-round}
 use Rattle.planner.specs.Applied.{noPart}
 use Rattle.planner.specs.Holding.{Holding, holding-all}
-use Rattle.planner.specs.Stage.{opening, joinedBy, bestAt, groupAt}
+use Rattle.planner.specs.Stage.{opening, joinedBy, roundAt}
 
 -- jobs as they stand between two rounds, and the holders that the code keeps of them
 pub record Sane (pay : Pay) (s : State) : Type 0 where
@@ -65,9 +65,9 @@ fitting-begin y h = record {
 }
 
 -- a group worth more than nothing is that of a job left
-winner : {js : List Job} {course : ℕ → Course} (b : Best) → Won denser (Member js) course 32 b → worthwhile (b .course) ≡ true → Member js (b .last)
-winner b (no-one h) w = absurd (false≢true w)
-winner b (some-one i l m e x) w = m
+winner-left : {js : List Job} {course : ℕ → Course} (b : Best) → Won denser (Member js) course 32 b → worthwhile (b .course) ≡ true → Member js (b .last)
+winner-left b (no-one h) w = absurd (false≢true w)
+winner-left b (some-one i l m e x) w = m
 
 -- every part of a run names a job
 pub numbered : {js₀ js : List Job} {ps : List Part} → Runs js₀ js ps → (k : ℕ) → k < length ps → getD ps k noPart .job < 32
@@ -76,22 +76,26 @@ numbered (last g e l) (suc k) h = absurd (not-suc-le-zero (le-of-suc-le-suc h))
 numbered (next g e u r) zero h = g .alive .there
 numbered (next g e u r) (suc k) h = numbered r k (le-of-suc-le-suc h)
 
-module _ {pay : Pay} {s : Stage} (f : Fitting pay s) where
+-- a round that appends parts, by a fair way of choosing
+module _ {way : Way} (fair : Fair way) {pay : Pay} {s : Stage} (f : Fitting pay s) (some : 0 < length (roundAt way pay s .parts)) where
   abbrev js : List Job
   js = s .state .jobs
 
-  pub best-runs : worthwhile (bestAt pay s .course) ≡ true → Runs (s .state .jobs) (s .state .jobs) (groupAt pay s .parts)
-  best-runs w =
+  pub round-runs : Runs (s .state .jobs) (s .state .jobs) (roundAt way pay s .parts)
+  round-runs =
       let y = f .jobs .ready in
-      group-runs pay (s .moment) (bestAt pay s .last) by-density-fair y (winner (bestAt pay s) (picked byDensity pay (s .moment) (y .sound)) w)
+      let v : View = viewOf pay js in
+      let w = some-won way v (s .moment) some in
+      rw (round-won way v (s .moment) w)
+      (group-runs pay (s .moment) (bestOf way v (s .moment) .last) fair y (winner-left (bestOf way v (s .moment)) (picked way pay (s .moment) (y .sound)) w))
 
-  pub fitting-next : worthwhile (bestAt pay s .course) ≡ true → Fitting pay (joinedBy (groupAt pay s) s)
+  pub fitting-next : Fitting pay (joinedBy (roundAt way pay s) s)
   unfolding joinedBy
-  fitting-next w =
+  fitting-next =
       let y = f .jobs .ready in
-      let g : Group = groupAt pay s in
-      let runs : Runs js js (g .parts) = best-runs w in
-      let c = small-group byDensity (viewOf pay js) (s .moment) (sane-modest (f .jobs)) (bestAt pay s .last) in
+      let g : Group = roundAt way pay s in
+      let runs : Runs js js (g .parts) = round-runs in
+      let c = small-round way (viewOf pay js) (s .moment) (sane-modest (f .jobs)) in
       record {
         jobs = record {
           ready = replay-ready (runs-replay runs) y;

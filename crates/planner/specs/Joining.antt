@@ -1,6 +1,5 @@
 -- What a round finds by the lent arrays is what the definition finds by the jobs, and its group can be joined to the plan.
-use mathlib.Core.Path.{_≡_, sym, ap, _∙_}
-use mathlib.Core.Bool.{Bool, true}
+use mathlib.Core.Path.{_≡_, ap, _∙_}
 use mathlib.Core.List.{List}
 use Prim.Native.Nat.{ℕ, _+_, _-_, _<_, _≤_}
 use native.Mathlib.Omega.{arith}
@@ -8,12 +7,11 @@ use lib.IntN.{ℤ, natAbs, _+ℤ_}
 use lib.ListN.{length, getD, take, replicate, List·getD-append}
 use lib.Seq.{take-append-seam}
 use Rattle.laws.specs.Fill.{padded}
-use Rattle.gus.specs.declared.Best.{Best}
 use Rattle.gus.specs.declared.Part.{Part}
 use Rattle.gus.specs.View.{Pay, View, viewOf}
-use Rattle.gus.specs.Choice.{byDensity}
-use Rattle.gus.specs.Group.{Group, groupOf}
-use Rattle.gus.specs.Round.{bestOf, worthwhile}
+use Rattle.gus.specs.Choice.{Way}
+use Rattle.gus.specs.Group.{Group}
+use Rattle.invariants.specs.Fair.{Fair}
 use Rattle.invariants.specs.Burden.{runs-burden}
 use Rattle.planner.specs.declared.State.{State}
 use Rattle.planner.specs.declared.Links.{Links}
@@ -24,12 +22,12 @@ use Rattle.planner.specs.Bounds.{Modest, Planned}
 use Rattle.planner.specs.Laid.{laid}
 use Rattle.planner.specs.LaidView.{laid-view, laid-modest}
 use Rattle.planner.specs.LaidOut.{emptyPart, laidOut}
-use Rattle.planner.specs.Limits.{group-short, best-below, small-group}
+use Rattle.planner.specs.Round.{roundOf, round-short, small-round}
 use Rattle.planner.specs.Applied.{afterParts, noPart, Numbered}
 use Rattle.planner.specs.Appended.{appended}
 use Rattle.planner.specs.Holding.{agreeing}
-use Rattle.planner.specs.Stage.{joinedBy, bestAt, groupAt}
-use Rattle.planner.specs.Fitting.{Fitting, sane-modest, numbered, best-runs}
+use Rattle.planner.specs.Stage.{joinedBy, roundAt}
+use Rattle.planner.specs.Fitting.{Sane, Fitting, sane-modest, numbered, round-runs}
 
 -- a group that can be joined to a stage: the parts find room, and no number grows too large
 pub record Joinable (s : Stage) (g : GroupParts) : Type 0 where
@@ -50,64 +48,60 @@ laid-numbered : (g : Group) → ((k : ℕ) → k < length (g .parts) → getD (g
 unfolding laidOut padded
 laid-numbered g h = record { below = λ k l. rw (List·getD-append (g .parts) _ noPart k l) (h k l) }
 
-module _ (pay : Pay) (s : Stage) where
-  pub fitting-moment : Fitting pay s → Planned (s .moment)
-  fitting-moment f = omega (arith, f .moment, f .few)
+pub fitting-moment : {pay : Pay} {s : Stage} → Fitting pay s → Planned (s .moment)
+fitting-moment f = omega (arith, f .moment, f .few)
 
-  pub round-test : {b : Best} {x y : Bool} → b ≡ bestAt pay s → x ≡ worthwhile (b .course) → x ≡ y → worthwhile (bestAt pay s .course) ≡ y
-  round-test d e q = ap (λ (z : Best). worthwhile (z .course)) (sym d) ∙ sym e ∙ q
+module _ (way : Way) (pay : Pay) (s : Stage) {g : GroupParts} (e : g ≡ laidOut (roundAt way pay s)) where
+  pub some-parts : 0 < g .count → 0 < length (roundAt way pay s .parts)
+  unfolding laidOut
+  some-parts h = rw e at h
 
-  module _ {g : GroupParts} (e : g ≡ laidOut (groupAt pay s)) where
-    pub joinable : Fitting pay s → worthwhile (bestAt pay s .course) ≡ true → Joinable s g
-    unfolding laidOut
-    joinable f w =
-        let v : View = viewOf pay (s .state .jobs) in
-        let c = small-group byDensity v (s .moment) (sane-modest (f .jobs)) (bestAt pay s .last) in
-        rw e (record {
-          few = group-short byDensity v (s .moment) (bestAt pay s .last);
-          room = omega (arith, f .room, runs-burden (best-runs f w) (f .jobs .ready .sound));
-          jobs = laid-numbered (groupAt pay s) (numbered (best-runs f w));
-          total = omega (arith, f .total, f .few);
-          gain = c .gain;
-          moment = fitting-moment f;
-          time = c .time;
-        })
+  pub no-parts : g .count ≤ 0 → length (roundAt way pay s .parts) ≤ 0
+  unfolding laidOut
+  no-parts h = rw e at h
 
-    group-parts : take (g .count) (g .parts) ≡ groupAt pay s .parts
-    group-parts = ap (λ (x : GroupParts). take (x .count) (x .parts)) e ∙ laid-parts (groupAt pay s)
+  pub joinable : Fair way → Fitting pay s → 0 < g .count → Joinable s g
+  unfolding laidOut
+  joinable fair f h =
+      let v : View = viewOf pay (s .state .jobs) in
+      let runs = round-runs fair f (some-parts h) in
+      let c = small-round way v (s .moment) (sane-modest (f .jobs)) in
+      rw e (record {
+        few = round-short way v (s .moment);
+        room = omega (arith, f .room, runs-burden runs (f .jobs .ready .sound));
+        jobs = laid-numbered (roundAt way pay s) (numbered runs);
+        total = omega (arith, f .total, f .few);
+        gain = c .gain;
+        moment = fitting-moment f;
+        time = c .time;
+      })
 
-    -- what the code makes of the group is the stage that the group makes
-    pub round-joined : {state : State} {parts : List Part} {total : ℤ}
-        → state ≡ afterParts (s .state) (take (g .count) (g .parts))
-        → parts ≡ appended (s .parts) (s .count) (take (g .count) (g .parts))
-        → total ≡ s .total +ℤ g .course .gain
-        → _≡_ {A = Stage} (record { state = state; parts = parts; count = s .count + g .count; rounds = s .rounds + 1; total = total; moment = s .moment + g .course .time }) (joinedBy (groupAt pay s) s)
-    unfolding joinedBy laidOut
-    round-joined a p t = λ j. record {
-      state = (a ∙ ap (afterParts (s .state)) group-parts) j;
-      parts = (p ∙ ap (appended (s .parts) (s .count)) group-parts) j;
-      count = s .count + e j .count;
-      rounds = s .rounds + 1;
-      total = (t ∙ ap (λ (x : GroupParts). s .total +ℤ x .course .gain) e) j;
-      moment = s .moment + e j .course .time;
-    }
+  group-parts : take (g .count) (g .parts) ≡ roundAt way pay s .parts
+  group-parts = ap (λ (x : GroupParts). take (x .count) (x .parts)) e ∙ laid-parts (roundAt way pay s)
 
--- over the lent curves, with the arrays of the round
-module _ (starts : List ℕ) (values slopes : List ℤ) (counts ends : List ℕ) {s : Stage} {l : Links} (f : Fitting (paid starts values slopes counts ends) s) (e : l ≡ laid (s .state)) where
+  -- what the code makes of the group is the stage that the group makes
+  pub round-joined : {state : State} {parts : List Part} {total : ℤ}
+      → state ≡ afterParts (s .state) (take (g .count) (g .parts))
+      → parts ≡ appended (s .parts) (s .count) (take (g .count) (g .parts))
+      → total ≡ s .total +ℤ g .course .gain
+      → _≡_ {A = Stage} (record { state = state; parts = parts; count = s .count + g .count; rounds = s .rounds + 1; total = total; moment = s .moment + g .course .time }) (joinedBy (roundAt way pay s) s)
+  unfolding joinedBy laidOut
+  round-joined a p t = λ j. record {
+    state = (a ∙ ap (afterParts (s .state)) group-parts) j;
+    parts = (p ∙ ap (appended (s .parts) (s .count)) group-parts) j;
+    count = s .count + e j .count;
+    rounds = s .rounds + 1;
+    total = (t ∙ ap (λ (x : GroupParts). s .total +ℤ x .course .gain) e) j;
+    moment = s .moment + e j .course .time;
+  }
+
+-- over the lent curves, with the arrays that are laid out for a round
+module _ (starts : List ℕ) (values slopes : List ℤ) (counts ends : List ℕ) {s : State} {l : Links} (y : Sane (paid starts values slopes counts ends) s) (e : l ≡ laid s) where
   pub round-modest : Modest (seenTimes starts values slopes counts ends (l .run) (l .rollback) (l .hold) (l .undo) (l .rolling))
-  round-modest = rw e (laid-modest (s .state) (agreeing (f .jobs .ready .sound) (f .jobs .holding)) starts values slopes counts ends (sane-modest (f .jobs)))
+  round-modest = rw e (laid-modest s (agreeing (y .ready .sound) (y .holding)) starts values slopes counts ends (sane-modest y))
 
-  round-view : seen starts values slopes counts ends (l .run) (l .rollback) (l .hold) (l .undo) (l .rolling) (l .left) (l .waits) ≡ viewOf (paid starts values slopes counts ends) (s .state .jobs)
-  round-view = rw e (laid-view (s .state) (agreeing (f .jobs .ready .sound) (f .jobs .holding)) starts values slopes counts ends)
+  round-view : seen starts values slopes counts ends (l .run) (l .rollback) (l .hold) (l .undo) (l .rolling) (l .left) (l .waits) ≡ viewOf (paid starts values slopes counts ends) (s .jobs)
+  round-view = rw e (laid-view s (agreeing (y .ready .sound) (y .holding)) starts values slopes counts ends)
 
-  module _ {b : Best} (d : b ≡ bestOf byDensity (seen starts values slopes counts ends (l .run) (l .rollback) (l .hold) (l .undo) (l .rolling) (l .left) (l .waits)) (s .moment)) where
-    pub round-best : b ≡ bestAt (paid starts values slopes counts ends) s
-    round-best = d ∙ ap (λ (v : View). bestOf byDensity v (s .moment)) round-view
-
-    -- the number handed on for the best's last job
-    module _ {last : ℕ} (n : last ≡ b .last) where
-      pub round-last : last < 32
-      round-last = rw (n, d) (best-below byDensity _ (s .moment))
-
-      pub round-group : {g : GroupParts} → g ≡ laidOut (groupOf byDensity (seen starts values slopes counts ends (l .run) (l .rollback) (l .hold) (l .undo) (l .rolling) (l .left) (l .waits)) (s .moment) last) → g ≡ laidOut (groupAt (paid starts values slopes counts ends) s)
-      round-group h = h ∙ (λ j. laidOut (groupOf byDensity (round-view j) (s .moment) ((n ∙ ap (λ (x : Best). x .last) round-best) j)))
+  pub round-found : (way : Way) (t : ℕ) {g : GroupParts} → g ≡ laidOut (roundOf way (seen starts values slopes counts ends (l .run) (l .rollback) (l .hold) (l .undo) (l .rolling) (l .left) (l .waits)) t) → g ≡ laidOut (roundOf way (viewOf (paid starts values slopes counts ends) (s .jobs)) t)
+  round-found way t h = h ∙ ap (λ (v : View). laidOut (roundOf way v t)) round-view

@@ -22,6 +22,7 @@ pub mod Following
 pub mod Considering
 pub mod Relinked
 pub mod Limits
+pub mod Round
 pub mod Applied
 pub mod Applying
 pub mod Appended
@@ -33,4 +34,6 @@ pub mod Joining
 pub mod Staged
 pub mod Planned
 pub mod Answering
+pub mod Ends
+pub mod First
 pub mod Counted

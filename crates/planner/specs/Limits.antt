@@ -6,6 +6,7 @@ use Prim.Native.Nat.{ℕ, zero, suc, _+_, _<_, _≤_}
 use native.Mathlib.Omega.{arith}
 use lib.Dec.{leb}
 use lib.ListN.{length}
+use borrow.Author.Tests.{lt-leb}
 use Rattle.laws.specs.Count.{upto}
 use Rattle.gus.specs.declared.Course.{Course}
 use Rattle.gus.specs.declared.Best.{Best}
@@ -17,18 +18,28 @@ use Rattle.gus.specs.Group.{toFree, grow, groupOf}
 use Rattle.gus.specs.Round.{better, consider, noBest, bestOf}
 use Rattle.planner.specs.Bounds.{Modest, Small, small-more, small-to-free, small-to-end}
 
--- a chain has at most 32 members
-pub chain-short : (waits : ℕ → ℕ) (i : ℕ) → length (chainOf waits i) ≤ 32
-unfolding chainOf chainTo
-chain-short waits i = by 32 i []
+-- a walk of n steps along the waits finds at most n members, and keeps those that it has
+chain-grows : (waits : ℕ → ℕ) (n j : ℕ) (l : List ℕ) → (length l ≤ length (chainTo waits n j l)) × (length (chainTo waits n j l) ≤ n + length l)
+unfolding chainTo
+chain-grows waits zero j l = (omega arith, omega arith)
+chain-grows waits (suc n) j l = by (leb 32 j) (chain-grows waits n (waits j) (j ∷ l))
   where
-    by : (n j : ℕ) (l : List ℕ) → length (chainTo waits n j l) ≤ n + length l
-    by zero j l = omega arith
-    by (suc n) j l = to (leb 32 j) (by n (waits j) (j ∷ l))
-      where
-        to : (b : Bool) → length (chainTo waits n (waits j) (j ∷ l)) ≤ n + suc (length l) → length {A = ℕ} (elim b [ true ↦ l | false ↦ chainTo waits n (waits j) (j ∷ l) ]) ≤ suc n + length l
-        to true h = omega arith
-        to false h = omega arith
+    by : (b : Bool) → (suc (length l) ≤ length (chainTo waits n (waits j) (j ∷ l))) × (length (chainTo waits n (waits j) (j ∷ l)) ≤ n + suc (length l)) → (length l ≤ length {A = ℕ} (elim b [ true ↦ l | false ↦ chainTo waits n (waits j) (j ∷ l) ])) × (length {A = ℕ} (elim b [ true ↦ l | false ↦ chainTo waits n (waits j) (j ∷ l) ]) ≤ suc n + length l)
+    by true h = (omega arith, omega arith)
+    by false h = (omega (arith, h .0), omega (arith, h .1))
+
+-- a job's chain has at most 32 members, and one at least
+pub chain-short : (waits : ℕ → ℕ) (i : ℕ) → length (chainOf waits i) ≤ 32
+unfolding chainOf
+chain-short waits i = omega (arith, chain-grows waits 32 i [] .1)
+
+chain-some : (waits : ℕ → ℕ) (i : ℕ) → i < 32 → 0 < length (chainOf waits i)
+unfolding chainOf chainTo
+chain-some waits i h = by 32 (omega arith)
+  where
+    by : (n : ℕ) → 0 < n → 0 < length (chainTo waits n i [])
+    by zero k = k
+    by (suc n) k = rw (lt-leb 32 i h, chainTo) (omega (arith, chain-grows waits n (waits i) (i ∷ []) .0))
 
 module _ (way : Way) (v : View) (t : ℕ) where
   -- a group has a part for each member of its chain
@@ -41,6 +52,10 @@ module _ (way : Way) (v : View) (t : ℕ) where
   pub group-short : (i : ℕ) → length (groupOf way v t i .parts) ≤ 32
   unfolding groupOf
   group-short i = omega (arith, length-grow (chainOf (v .waits) i) start, chain-short (v .waits) i)
+
+  pub group-some : (i : ℕ) → i < 32 → 0 < length (groupOf way v t i .parts)
+  unfolding groupOf
+  group-some i h = omega (arith, length-grow (chainOf (v .waits) i) start, chain-some (v .waits) i h)
 
   -- job i's group as the best
   abbrev best : ℕ → Best

@@ -11,7 +11,8 @@ use Rattle.cursor.specs.Refusal.{KNOT}
 use Rattle.book.specs.Format.{bookOf}
 use Rattle.gus.specs.View.{Pay, viewOf}
 use Rattle.gus.specs.Victims.{knotOf}
-use Rattle.gus.specs.Plan.{Answer, answerOf}
+use Rattle.gus.specs.Choice.{Way, byDensity}
+use Rattle.gus.specs.Plan.{Answer, answerTo}
 use Rattle.opening.specs.Start.{jobsFrom, payFrom}
 use Rattle.planner.specs.declared.Planned.{Planned}
 use Rattle.planner.specs.LaidOut.{emptyPart}
@@ -42,14 +43,18 @@ refusedPlan number place = record {
   end = 0;
 }
 
--- KNOT, whose place is a job number; otherwise the answer
-unfoldable pub answered : Pay → List Job → ℕ → Planned
-answered pay js now =
+-- KNOT, whose place is a job number; otherwise the answer of at most n rounds
+unfoldable pub answeredTo : ℕ → Way → Pay → List Job → ℕ → Planned
+answeredTo n way pay js now =
     let knot = knotOf (viewOf pay js) now in
-    elim (ltb knot 32) [ true ↦ refusedPlan KNOT knot | false ↦ laidPlan (answerOf pay js now) ]
+    elim (ltb knot 32) [ true ↦ refusedPlan KNOT knot | false ↦ laidPlan (answerTo n way pay js now) ]
 
 -- the reader's refusals come first
-unfoldable pub plannedOf : List ℕ → Planned
-plannedOf s =
+unfoldable pub plannedTo : ℕ → Way → List ℕ → Planned
+plannedTo n way s =
     let b = bookOf s in
-    elim (ltb 0 (b .number)) [ true ↦ refusedPlan (b .number) (b .place) | false ↦ answered (payFrom b) (jobsFrom b) (b .now) ]
+    elim (ltb 0 (b .number)) [ true ↦ refusedPlan (b .number) (b .place) | false ↦ answeredTo n way (payFrom b) (jobsFrom b) (b .now) ]
+
+-- THE PLAN OF A BOOK: by 01's way of choosing, and in no more rounds than jobs, since each ends one
+abbrev pub plannedOf : List ℕ → Planned
+plannedOf = plannedTo 32 byDensity

@@ -1,17 +1,16 @@
--- One round of the code's loop, as a step from stage to stage (VI.1 at 01's way of choosing).
+-- One round of the code's loop, as a step from stage to stage (VI.1, for any way of choosing a mode).
 use mathlib.Core.List.{[]}
 use Prim.Native.Nat.{ℕ, _+_}
 use lib.IntN.{pos, _+ℤ_}
 use lib.ListN.{length}
 use Rattle.laws.specs.Fill.{padded}
-use Rattle.gus.specs.declared.Best.{Best}
 use Rattle.gus.specs.View.{Pay, viewOf}
-use Rattle.gus.specs.Choice.{byDensity}
-use Rattle.gus.specs.Group.{Group, groupOf}
-use Rattle.gus.specs.Round.{bestOf}
+use Rattle.gus.specs.Choice.{Way}
+use Rattle.gus.specs.Group.{Group}
 use Rattle.planner.specs.declared.State.{State}
 use Rattle.planner.specs.declared.Stage.{Stage}
 use Rattle.planner.specs.LaidOut.{emptyPart}
+use Rattle.planner.specs.Round.{roundOf}
 use Rattle.planner.specs.Applied.{afterParts}
 use Rattle.planner.specs.Appended.{appended}
 
@@ -29,9 +28,6 @@ joinedBy g s = record {
   moment = s .moment + g .course .time;
 }
 
--- the best of the jobs left, and its group
-abbrev pub bestAt : Pay → Stage → Best
-bestAt pay s = bestOf byDensity (viewOf pay (s .state .jobs)) (s .moment)
-
-abbrev pub groupAt : Pay → Stage → Group
-groupAt pay s = groupOf byDensity (viewOf pay (s .state .jobs)) (s .moment) (bestAt pay s .last)
+-- what the next round appends
+abbrev pub roundAt : Way → Pay → Stage → Group
+roundAt way pay s = roundOf way (viewOf pay (s .state .jobs)) (s .moment)

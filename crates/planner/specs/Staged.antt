@@ -1,21 +1,23 @@
 -- THE ROUNDS AS A LOOP: the plan so far, joined with the rounds left from here, is the whole plan.
-use mathlib.Core.Path.{_≡_, refl, sym, _∙_}
-use mathlib.Core.Bool.{true, false}
+use mathlib.Core.Path.{_≡_, refl, sym, subst, _∙_}
 use Prim.Native.Nat.{ℕ, suc, _+_, _-_, _<_, _≤_}
+use native.Mathlib.Nat.{sub-zero}
 use native.Mathlib.Omega.{arith}
 use lib.IntN.{_+ℤ_, +ℤ-idl, +ℤ-idr, +ℤ-assoc}
 use lib.ListN.{length}
 use Rattle.laws.specs.Fill.{Pushing, padded, push-begin, push-ended, push-length}
-use Rattle.gus.specs.View.{Pay}
-use Rattle.gus.specs.Choice.{byDensity}
-use Rattle.gus.specs.Round.{Plan, stop, joined, worthwhile, rounds}
+use Rattle.gus.specs.View.{Pay, View, viewOf}
+use Rattle.gus.specs.Choice.{Way}
+use Rattle.gus.specs.Round.{Plan, stop, joined, rounds}
+use Rattle.invariants.specs.Fair.{Fair}
 use Rattle.invariants.specs.Burden.{runs-burden}
 use Rattle.planner.specs.declared.State.{State}
 use Rattle.planner.specs.declared.Stage.{Stage}
 use Rattle.planner.specs.LaidOut.{emptyPart}
 use Rattle.planner.specs.Appending.{appended-pushing}
-use Rattle.planner.specs.Stage.{opening, joinedBy, bestAt, groupAt}
-use Rattle.planner.specs.Fitting.{Sane, Fitting, fitting-begin, fitting-next, best-runs}
+use Rattle.planner.specs.Round.{round-won, some-won, none-over}
+use Rattle.planner.specs.Stage.{opening, joinedBy, roundAt}
+use Rattle.planner.specs.Fitting.{Sane, Fitting, fitting-begin, fitting-next, round-runs}
 
 -- a plan laid out in a stage
 pub record Rounded (plan : Plan) (s : Stage) : Type 0 where
@@ -32,14 +34,6 @@ record Making (whole : Plan) (s : Stage) (rest : Plan) : Type 0 where
   total : s .total +ℤ rest .total ≡ whole .total
   end : rest .end ≡ whole .end
 
-abbrev restOf : Pay → ℕ → Stage → Plan
-restOf pay n s = rounds n byDensity pay (s .state .jobs) (s .moment)
-
--- The loop's whole invariant, with n rounds left.
-pub record Staged (pay : Pay) (whole : Plan) (n : ℕ) (s : Stage) : Type 0 where
-  pub fits : Fitting pay s
-  making : Making whole s (restOf pay n s)
-
 made : {whole : Plan} {s : Stage} → Making whole s (stop (s .moment)) → Rounded whole s
 made {s = s} m = record {
   parts = push-ended (m .parts);
@@ -49,63 +43,90 @@ made {s = s} m = record {
   end = m .end;
 }
 
-pub staged-begin : {pay : Pay} {s : State} {now : ℕ} → Sane pay s → now ≤ 2147483647 → Staged pay (rounds 32 byDensity pay (s .jobs) now) 32 (opening s now)
+abbrev restOf : ℕ → Way → Pay → Stage → Plan
+restOf n way pay s = rounds n way pay (s .state .jobs) (s .moment)
+
+-- The loop's whole invariant, with n rounds left.
+pub record Staged (n : ℕ) (way : Way) (pay : Pay) (whole : Plan) (s : Stage) : Type 0 where
+  pub fits : Fitting pay s
+  making : Making whole s (restOf n way pay s)
+
+pub staged-begin : {n : ℕ} {way : Way} {pay : Pay} {s : State} {now : ℕ} → Sane pay s → now ≤ 2147483647 → Staged n way pay (rounds n way pay (s .jobs) now) (opening s now)
 unfolding opening padded
 staged-begin y h = record {
   fits = fitting-begin y h;
   making = record { parts = push-begin; rounds = omega arith; total = +ℤ-idl _; end = refl };
 }
 
-module _ {pay : Pay} {whole : Plan} where
-  pub staged-ended : {s : Stage} → Staged pay whole 0 s → Rounded whole s
+module _ {way : Way} {pay : Pay} {whole : Plan} where
+  pub staged-ended : {s : Stage} → Staged 0 way pay whole s → Rounded whole s
   unfolding rounds
   staged-ended y = made (y .making)
 
-  module _ {n : ℕ} {s : Stage} (y : Staged pay whole (suc n) s) where
-    rest-stop : worthwhile (bestAt pay s .course) ≡ false → restOf pay (suc n) s ≡ stop (s .moment)
-    unfolding rounds
-    rest-stop w = rw (w, rounds)
+  module _ {n : ℕ} {s : Stage} (y : Staged (suc n) way pay whole s) where
+    abbrev v : View
+    v = viewOf pay (s .state .jobs)
 
-    rest-join : worthwhile (bestAt pay s .course) ≡ true → restOf pay (suc n) s ≡ joined (groupAt pay s) (restOf pay n (joinedBy (groupAt pay s) s))
+    rest-stop : length (roundAt way pay s .parts) ≤ 0 → restOf (suc n) way pay s ≡ stop (s .moment)
+    unfolding rounds
+    rest-stop h = rw (none-over way v (s .moment) h, rounds)
+
+    rest-join : 0 < length (roundAt way pay s .parts) → restOf (suc n) way pay s ≡ joined (roundAt way pay s) (restOf n way pay (joinedBy (roundAt way pay s) s))
     unfolding rounds joinedBy
-    rest-join w = rw (w, rounds)
+    rest-join h = let w = some-won way v (s .moment) h in rw (round-won way v (s .moment) w, w, rounds)
 
     -- the end
-    pub staged-stopped : worthwhile (bestAt pay s .course) ≡ false → Rounded whole s
-    staged-stopped w = made (rw (rest-stop w) at (y .making))
+    pub staged-stopped : length (roundAt way pay s .parts) ≤ 0 → Rounded whole s
+    staged-stopped h = made (rw (rest-stop h) at (y .making))
 
     -- one round on
-    pub staged-next : {r : Stage} → worthwhile (bestAt pay s .course) ≡ true → r ≡ joinedBy (groupAt pay s) s → Staged pay whole n r
+    pub staged-next : Fair way → 0 < length (roundAt way pay s .parts) → {r : Stage} → r ≡ joinedBy (roundAt way pay s) s → Staged n way pay whole r
     unfolding joinedBy
-    staged-next w e =
-        let m : Making whole s (joined (groupAt pay s) (restOf pay n (joinedBy (groupAt pay s) s))) = rw (rest-join w) at (y .making) in
-        rw e (record { fits = fitting-next (y .fits) w; making = onward m })
+    staged-next fair h e =
+        let m : Making whole s (joined (roundAt way pay s) (restOf n way pay (joinedBy (roundAt way pay s) s))) = rw (rest-join h) at (y .making) in
+        rw e (record { fits = fitting-next fair (y .fits) h; making = onward m })
       where
-        onward : {rest : Plan} → Making whole s (joined (groupAt pay s) rest) → Making whole (joinedBy (groupAt pay s) s) rest
+        onward : {rest : Plan} → Making whole s (joined (roundAt way pay s) rest) → Making whole (joinedBy (roundAt way pay s) s) rest
         onward {rest} m = record {
-          parts = appended-pushing (groupAt pay s .parts) (m .parts) (omega (arith, y .fits .room, runs-burden (best-runs (y .fits) w) (y .fits .jobs .ready .sound)));
+          parts = appended-pushing (roundAt way pay s .parts) (m .parts) (omega (arith, y .fits .room, runs-burden (round-runs fair (y .fits) h) (y .fits .jobs .ready .sound)));
           rounds = omega (arith, m .rounds);
-          total = +ℤ-assoc (s .total) (groupAt pay s .course .gain) (rest .total) ∙ m .total;
+          total = +ℤ-assoc (s .total) (roundAt way pay s .course .gain) (rest .total) ∙ m .total;
           end = m .end;
         }
 
--- The same by the number of rounds made: i of 32.
-pub record Rounding (pay : Pay) (whole : Plan) (s : Stage) (i : ℕ) : Type 0 where
-  pub within : i ≤ 32
-  pub staged : Staged pay whole (32 - i) s
+-- The same by the number of rounds made: i of n. When all are made, nobody asks for the state any more.
+pub record Rounding (n : ℕ) (way : Way) (pay : Pay) (whole : Plan) (s : Stage) (i : ℕ) : Type 0 where
+  pub more : i < n → Staged (n - i) way pay whole s
+  pub done : n ≤ i → Rounded whole s
 
-pub rounding-begin : {pay : Pay} {s : State} {now : ℕ} → Sane pay s → now ≤ 2147483647 → Rounding pay (rounds 32 byDensity pay (s .jobs) now) (opening s now) 0
-rounding-begin y h = record { within = omega arith; staged = staged-begin y h }
+pub rounding-begin : {n : ℕ} {way : Way} {pay : Pay} {s : State} {now : ℕ} → Sane pay s → now ≤ 2147483647 → Rounding n way pay (rounds n way pay (s .jobs) now) (opening s now) 0
+rounding-begin {n} {way} {pay} {s} {now} y h =
+    let all : Staged n way pay (rounds n way pay (s .jobs) now) (opening s now) = staged-begin y h in
+    record {
+      more = λ l. rw (sub-zero n) all;
+      done = λ l. let e : n ≡ 0 = omega arith in staged-ended (subst (λ (k : ℕ). Staged k way pay (rounds n way pay (s .jobs) now) (opening s now)) e all);
+    }
 
-module _ {pay : Pay} {whole : Plan} {s : Stage} {i : ℕ} (y : Rounding pay whole s i) where
-  one-more : i < 32 → Staged pay whole (suc (32 - (i + 1))) s
-  one-more h = let e : suc (32 - (i + 1)) ≡ 32 - i = omega arith in rw e (y .staged)
+module _ {n : ℕ} {way : Way} {pay : Pay} {whole : Plan} {s : Stage} {i : ℕ} (y : Rounding n way pay whole s i) (h : i < n) where
+  one-more : Staged (suc (n - (i + 1))) way pay whole s
+  one-more = let e : suc (n - (i + 1)) ≡ n - i = omega arith in rw e (y .more h)
 
-  pub rounding-next : {r : Stage} → i < 32 → worthwhile (bestAt pay s .course) ≡ true → r ≡ joinedBy (groupAt pay s) s → Rounding pay whole r (i + 1)
-  rounding-next h w e = record { within = omega arith; staged = staged-next (one-more h) w e }
+  pub rounding-fits : Fitting pay s
+  rounding-fits = y .more h .fits
 
-  pub rounding-stopped : i < 32 → worthwhile (bestAt pay s .course) ≡ false → Rounded whole s
-  rounding-stopped h w = staged-stopped (one-more h) w
+  pub rounding-stopped : length (roundAt way pay s .parts) ≤ 0 → Rounded whole s
+  rounding-stopped w = staged-stopped one-more w
 
-  pub rounding-ended : 32 ≤ i → Rounded whole s
-  rounding-ended h = let e : 32 - i ≡ 0 = omega arith in staged-ended (rw e at (y .staged))
+  module _ (fair : Fair way) (w : 0 < length (roundAt way pay s .parts)) {r : Stage} (e : r ≡ joinedBy (roundAt way pay s) s) where
+    pub rounding-next : i + 1 < n → Rounding n way pay whole r (i + 1)
+    rounding-next l = record { more = λ _. staged-next one-more fair w e; done = λ m. absurd (omega arith) }
+
+    -- the last of them: whatever the state is left as
+    pub rounding-last : n ≤ i + 1 → (state : State) → Rounding n way pay whole (record { state = state; parts = r .parts; count = r .count; rounds = r .rounds; total = r .total; moment = r .moment }) (i + 1)
+    rounding-last l state =
+        let q : n - (i + 1) ≡ 0 = omega arith in
+        let d : Rounded whole r = staged-ended (rw q at (staged-next one-more fair w e)) in
+        record {
+          more = λ m. absurd (omega arith);
+          done = λ m. record { parts = d .parts; count = d .count; rounds = d .rounds; total = d .total; end = d .end };
+        }

@@ -16,9 +16,11 @@ pub mod choice; // VI.5: the choice of a mode
 pub mod chain; // VI.2: the chain of a job
 pub mod group; // VI.3: the group of a job
 pub mod scan; // VI.1: the best group of a round
+pub mod round; // VI.1: one round, the group that it appends
 pub mod apply; // VI.4: what a row of parts does to the jobs
 pub mod rounds; // VI.1: round after round
 pub mod plan; // the whole plan of a book
+pub mod first; // the first part of the plan, by one round
 
 // The job records by number, and who holds each resource: a job's number, or 255 for nobody.
 pub struct State {
@@ -52,7 +54,8 @@ pub struct GroupParts {
     pub course: Course,
 }
 
-// The jobs after some rounds, the plan so far (parts 0 .. count), and the planned moment.
+// The jobs after some rounds, the plan so far (parts 0 .. count), and the planned moment. After the last round that is made the jobs
+// are still those before it.
 pub struct Stage {
     pub state: State,
     pub parts: [Part; 96],
@@ -87,6 +90,14 @@ pub struct Planned {
     pub rounds: usize,
     pub total: i32,
     pub end: u32,
+}
+
+// number: 0, or the refusal's, and then place is its place. some: whether the plan has a part; where it has none, part is empty.
+pub struct FirstPart {
+    pub number: u8,
+    pub place: usize,
+    pub some: bool,
+    pub part: Part,
 }
 
 fn wide(n: u8) -> usize

@@ -1,8 +1,10 @@
 // The plan of a book: the reader's refusal, KNOT, or the victims and the rounds after them.
 ghost use mathlib.Core.Path.{_≡_};
+ghost use Prim.Native.Nat.{_≤_};
 ghost use Rattle.book.specs.Format.{bookOf};
+ghost use Rattle.gus.specs.Choice.{byDensity};
 ghost use Rattle.planner.specs.Seen.{paid};
-ghost use Rattle.planner.specs.Planned.{refusedPlan, answered, plannedOf};
+ghost use Rattle.planner.specs.Planned.{refusedPlan, answeredTo, plannedTo, plannedOf};
 ghost use Rattle.planner.specs.Answering.{Accepted, Taken, planIn};
 use crate::Opened;
 use crate::Planned;
@@ -105,9 +107,11 @@ fn answer<'a>(
     ends: &'a [u32; 32],
     s: State,
     t: u32,
+    limit: usize,
 ) -> Planned
     requires { ⌜ Accepted (paid (now starts) (now values) (now slopes) (now counts) (now ends)) s t ⌝ }
-    ensures { λ r. ⌜ r ≡ answered (paid (now (starts .entry)) (now (values .entry)) (now (slopes .entry)) (now (counts .entry)) (now (ends .entry))) (s .jobs) t ⌝ }
+    requires { ⌜ limit ≤ 32 ⌝ }
+    ensures { λ r. ⌜ r ≡ answeredTo limit byDensity (paid (now (starts .entry)) (now (values .entry)) (now (slopes .entry)) (now (counts .entry)) (now (ends .entry))) (s .jobs) t ⌝ }
 {
     let l = lay(s);
     let v = victims(
@@ -132,12 +136,14 @@ fn answer<'a>(
         jobs: left,
         holders,
     };
-    let last = rounds(starts, values, slopes, counts, ends, state, t);
+    let last = rounds(starts, values, slopes, counts, ends, state, t, limit);
     plan_of(v, last)
 }
 
-pub fn plan(bytes: &[u8]) -> Planned
-    ensures { λ r. ⌜ r ≡ plannedOf (now (bytes .entry)) ⌝ }
+// The plan of at most `limit` rounds.
+pub(crate) fn plan_in(bytes: &[u8], limit: usize) -> Planned
+    requires { ⌜ limit ≤ 32 ⌝ }
+    ensures { λ r. ⌜ r ≡ plannedTo limit byDensity (now (bytes .entry)) ⌝ }
 {
     let o = open_book(bytes);
     if 0 < o.number {
@@ -152,5 +158,13 @@ pub fn plan(bytes: &[u8]) -> Planned
         &o.ends,
         state,
         o.now,
+        limit,
     )
+}
+
+// No more rounds than jobs, since each ends one.
+pub fn plan(bytes: &[u8]) -> Planned
+    ensures { λ r. ⌜ r ≡ plannedOf (now (bytes .entry)) ⌝ }
+{
+    plan_in(bytes, 32)
 }

@@ -4,7 +4,7 @@ ghost use Prim.Native.Nat.{_+_, _≤_};
 ghost use lib.IntN.{natAbs, _+ℤ_};
 ghost use lib.ListN.{take};
 ghost use Rattle.gus.specs.Choice.{byDensity};
-ghost use Rattle.gus.specs.Round.{worthwhile, rounds};
+ghost use Rattle.gus.specs.Round.{rounds};
 ghost use Rattle.planner.specs.Seen.{paid};
 ghost use Rattle.planner.specs.Appended.{appended};
 ghost use Rattle.planner.specs.Fitting.{Sane};
@@ -12,11 +12,8 @@ ghost use Rattle.planner.specs.Staged.{Rounded};
 use crate::Stage;
 use crate::State;
 use crate::apply::apply_all;
-use crate::group::group;
 use crate::lay::lay;
-use crate::scan::scan;
-use crate::wide;
-use gus::Course;
+use crate::round::round;
 use gus::Part;
 
 // The first n parts of a group, after the parts of the plan so far.
@@ -33,13 +30,6 @@ fn append(mut plan: [Part; 96], count: usize, parts: [Part; 32], n: usize) -> [P
     plan
 }
 
-// "is appended if above zero"
-fn above_zero(c: Course) -> bool
-    ensures { λ r. ⌜ r ≡ worthwhile c ⌝ }
-{
-    0 < c.gain
-}
-
 fn sum(total: i32, gain: i32) -> i32
     requires { ⌜ (natAbs total ≤ 1_024_000_000) × (natAbs gain ≤ 32_000_000) ⌝ }
     ensures { λ r. ⌜ r ≡ total +ℤ gain ⌝ }
@@ -47,8 +37,8 @@ fn sum(total: i32, gain: i32) -> i32
     total + gain
 }
 
-// No more rounds than jobs, since each ends one. The state stands in one local: handed from function to function it would be copied
-// each time, and that is most of what a round with short chains costs.
+// At most `limit` rounds. The state stands in one local: handed from function to function it would be copied each time, and that is
+// most of what a round with short chains costs. After the last round nobody asks for it, so there it is left as it was.
 pub(crate) fn rounds<'a>(
     starts: &'a [u32; 256],
     values: &'a [i32; 256],
@@ -57,9 +47,11 @@ pub(crate) fn rounds<'a>(
     ends: &'a [u32; 32],
     state: State,
     t: u32,
+    limit: usize,
 ) -> Stage
     requires { ⌜ (Sane (paid (now starts) (now values) (now slopes) (now counts) (now ends)) state) × (t ≤ 2147483647) ⌝ }
-    ensures { λ r. ⌜ Rounded (rounds 32 byDensity (paid (now (starts .entry)) (now (values .entry)) (now (slopes .entry)) (now (counts .entry)) (now (ends .entry))) (state .jobs) t) r ⌝ }
+    requires { ⌜ limit ≤ 32 ⌝ }
+    ensures { λ r. ⌜ Rounded (rounds limit byDensity (paid (now (starts .entry)) (now (values .entry)) (now (slopes .entry)) (now (counts .entry)) (now (ends .entry))) (state .jobs) t) r ⌝ }
 {
     let empty = Part {
         job: 0,
@@ -72,9 +64,9 @@ pub(crate) fn rounds<'a>(
     let mut total: i32 = 0;
     let mut moment: u32 = t;
     let mut i: usize = 0;
-    while i < 32 {
+    while i < limit {
         let l = lay(current);
-        let b = scan(
+        let g = round(
             starts,
             values,
             slopes,
@@ -89,34 +81,19 @@ pub(crate) fn rounds<'a>(
             &l.waits,
             moment,
         );
-        let best = b.course;
-        if above_zero(best) {
-            let last = wide(b.last);
-            let g = group(
-                starts,
-                values,
-                slopes,
-                counts,
-                ends,
-                &l.run,
-                &l.rollback,
-                &l.hold,
-                &l.undo,
-                &l.rolling,
-                &l.waits,
-                last,
-                moment,
-            );
+        let n = g.count;
+        if 0 < n {
             let parts = g.parts;
-            let n = g.count;
             let course = g.course;
-            current = apply_all(current, parts, n);
             let longer = append(plan, count, parts, n);
             plan = longer;
             count += n;
             total = sum(total, course.gain);
             moment += course.time;
             i += 1;
+            if i < limit {
+                current = apply_all(current, parts, n);
+            }
         } else {
             return Stage {
                 state: current,
