@@ -1,5 +1,5 @@
--- The twelve of 01, "Twelve to prove": each book as bytes, and its answer as bytes or as a refusal; and one proof over the table.
-use mathlib.Core.Path.{_≡_, refl}
+-- The twelve of 01, "Twelve to prove": each book as bytes, its answer as bytes or as a refusal, its first part, and the number that C gets for that; and one proof over the table.
+use mathlib.Core.Path.{_≡_, refl, sym, _∙_}
 use mathlib.Core.Bool.{true, false}
 use mathlib.Core.List.{List, [], _∷_, _++_, map}
 use Prim.Native.Nat.{ℕ}
@@ -16,14 +16,17 @@ use Rattle.gus.specs.State.{afterAll}
 use Rattle.gus.specs.Waits.{holderFrom, chainTo, chainOf}
 use Rattle.gus.specs.Course.{passed, credited, denser, toEnd}
 use Rattle.gus.specs.Choice.{reckonOne, reckon, byDensity}
-use Rattle.gus.specs.Group.{toFree, grow, groupOf}
+use Rattle.gus.specs.Group.{toFree, partOf, grow, groupOf}
 use Rattle.gus.specs.Round.{better, consider, bestOf, rounds}
 use Rattle.gus.specs.Victims.{circleFrom, circleOf, lossOf, lesser, offer, victimOf, victimsTo, victimsOf, knotTo, knotOf, settled}
-use Rattle.gus.specs.Plan.{answerBy}
+use Rattle.gus.specs.Plan.{answerTo}
 use Rattle.laws.specs.Count.{upto}
 use Rattle.laws.specs.Fill.{padded}
 use Rattle.opening.specs.Start.{heldFrom, jobFrom}
-use Rattle.planner.specs.Planned.{laidPlan, refusedPlan, answered, plannedOf}
+use Rattle.planner.specs.declared.FirstPart.{FirstPart}
+use Rattle.planner.specs.Planned.{laidPlan, refusedPlan, answeredTo, plannedTo, plannedOf}
+use Rattle.planner.specs.First.{firstIn, refusedFirst, nothing, found, first-planned}
+use Rattle.ilhuepatl.specs.Calls.{word, partWord, firstWord}
 use Rattle.ilhuepatl.specs.Answer.{two, four, bits, partBytes, partsBytes, answerBytes}
 
 pub data Outcome : Type 0 where
@@ -37,6 +40,8 @@ outcomeOf s = let p = plannedOf s in elim (ltb 0 (p .number)) [ true ↦ refused
 pub record Case : Type 0 where
   pub book : List ℕ
   pub outcome : Outcome
+  pub first : FirstPart
+  pub word : ℕ
 
 -- 1. Empty book of 9 bytes
 case1 : Case
@@ -45,6 +50,8 @@ case1 = record {
   outcome = bytes ((0 ∷ 14 ∷ 1 ∷ 0 ∷ [])
       ++ (0 ∷ [])
       ++ (0 ∷ 0 ∷ 0 ∷ 0 ∷ 0 ∷ 0 ∷ 0 ∷ 0 ∷ 0 ∷ []));
+  first = nothing;
+  word = 0;
 }
 
 -- 2. Job 0 10/50, job 1 4/40
@@ -58,6 +65,8 @@ case2 = record {
       ++ (1 ∷ 0 ∷ 0 ∷ 4 ∷ [])
       ++ (0 ∷ 0 ∷ 0 ∷ 10 ∷ [])
       ++ (2 ∷ 0 ∷ 0 ∷ 0 ∷ 90 ∷ 0 ∷ 0 ∷ 0 ∷ 14 ∷ []));
+  first = found (partOf 1 false 4);
+  word = 16777220;
 }
 
 -- 3. Job 0 10/7, termination 10
@@ -69,6 +78,8 @@ case3 = record {
       ++ (1 ∷ [])
       ++ (0 ∷ 0 ∷ 0 ∷ 10 ∷ [])
       ++ (1 ∷ 0 ∷ 0 ∷ 0 ∷ 7 ∷ 0 ∷ 0 ∷ 0 ∷ 10 ∷ []));
+  first = found (partOf 0 false 10);
+  word = 10;
 }
 
 -- 4. The same, termination 9
@@ -79,6 +90,8 @@ case4 = record {
   outcome = bytes ((0 ∷ 14 ∷ 1 ∷ 0 ∷ [])
       ++ (0 ∷ [])
       ++ (0 ∷ 0 ∷ 0 ∷ 0 ∷ 0 ∷ 0 ∷ 0 ∷ 0 ∷ 0 ∷ []));
+  first = nothing;
+  word = 0;
 }
 
 -- 5. The book printed in 01
@@ -92,6 +105,8 @@ case5 = record {
       ++ (0 ∷ 1 ∷ 0 ∷ 2 ∷ [])
       ++ (1 ∷ 0 ∷ 0 ∷ 5 ∷ [])
       ++ (1 ∷ 0 ∷ 0 ∷ 0 ∷ 22 ∷ 0 ∷ 0 ∷ 0 ∷ 7 ∷ []));
+  first = found (partOf 0 true 2);
+  word = 65538;
 }
 
 -- 6. Job 0 20/30 holds r0 (6, rollback 1); job 1 5/22 requests r0 (5, 1)
@@ -106,6 +121,8 @@ case6 = record {
       ++ (1 ∷ 0 ∷ 0 ∷ 5 ∷ [])
       ++ (0 ∷ 0 ∷ 0 ∷ 14 ∷ [])
       ++ (2 ∷ 0 ∷ 0 ∷ 0 ∷ 52 ∷ 0 ∷ 0 ∷ 0 ∷ 25 ∷ []));
+  first = found (partOf 0 false 6);
+  word = 6;
 }
 
 -- 7. Case 5, job 0 rollback and held rollback 6: a tie
@@ -119,6 +136,8 @@ case7 = record {
       ++ (0 ∷ 0 ∷ 0 ∷ 6 ∷ [])
       ++ (1 ∷ 0 ∷ 0 ∷ 5 ∷ [])
       ++ (1 ∷ 0 ∷ 0 ∷ 0 ∷ 22 ∷ 0 ∷ 0 ∷ 0 ∷ 11 ∷ []));
+  first = found (partOf 0 false 6);
+  word = 6;
 }
 
 -- 8. Job 0 12/0, never, holds r0 for 3, r1 for 8; job 1 2/10 requests r1 for 2
@@ -132,6 +151,8 @@ case8 = record {
       ++ (0 ∷ 0 ∷ 0 ∷ 8 ∷ [])
       ++ (1 ∷ 0 ∷ 0 ∷ 2 ∷ [])
       ++ (1 ∷ 0 ∷ 0 ∷ 0 ∷ 10 ∷ 0 ∷ 0 ∷ 0 ∷ 10 ∷ []));
+  first = found (partOf 0 false 8);
+  word = 8;
 }
 
 -- 9. A circle of two
@@ -145,6 +166,8 @@ case9 = record {
       ++ (1 ∷ 1 ∷ 0 ∷ 3 ∷ [])
       ++ (0 ∷ 0 ∷ 0 ∷ 10 ∷ [])
       ++ (1 ∷ 0 ∷ 0 ∷ 0 ∷ 50 ∷ 0 ∷ 0 ∷ 0 ∷ 13 ∷ []));
+  first = found (partOf 1 true 3);
+  word = 16842755;
 }
 
 -- 10. Case 9, job 1 never
@@ -158,6 +181,8 @@ case10 = record {
       ++ (0 ∷ 1 ∷ 0 ∷ 3 ∷ [])
       ++ (1 ∷ 0 ∷ 0 ∷ 10 ∷ [])
       ++ (1 ∷ 0 ∷ 0 ∷ 0 ∷ 20 ∷ 0 ∷ 0 ∷ 0 ∷ 13 ∷ []));
+  first = found (partOf 0 true 3);
+  word = 65539;
 }
 
 -- 11. Case 9, both never: KNOT at 0
@@ -167,6 +192,8 @@ case11 = record {
       ++ (0 ∷ 0 ∷ 10 ∷ 255 ∷ 255 ∷ 1 ∷ 0 ∷ 4 ∷ 255 ∷ 255 ∷ 1 ∷ 0 ∷ 0 ∷ 10 ∷ 255 ∷ 255 ∷ 1 ∷ 0 ∷ 0 ∷ 0 ∷ 0 ∷ 0 ∷ 0 ∷ 0 ∷ 50 ∷ 0 ∷ 0 ∷ 0 ∷ 0 ∷ 3 ∷ 232 ∷ [])
       ++ (0 ∷ 0 ∷ 10 ∷ 255 ∷ 255 ∷ 0 ∷ 0 ∷ 4 ∷ 255 ∷ 255 ∷ 1 ∷ 1 ∷ 0 ∷ 10 ∷ 255 ∷ 255 ∷ 1 ∷ 0 ∷ 0 ∷ 0 ∷ 0 ∷ 0 ∷ 0 ∷ 0 ∷ 20 ∷ 0 ∷ 0 ∷ 0 ∷ 0 ∷ 3 ∷ 232 ∷ []));
   outcome = refused KNOT 0;
+  first = refusedFirst KNOT 0;
+  word = 42949672960;
 }
 
 -- 12. All never: a chain of three, and what is freed goes to the job that ran next
@@ -185,11 +212,28 @@ case12 = record {
       ++ (1 ∷ 0 ∷ 0 ∷ 6 ∷ [])
       ++ (3 ∷ 0 ∷ 0 ∷ 1 ∷ [])
       ++ (2 ∷ 0 ∷ 0 ∷ 0 ∷ 70 ∷ 0 ∷ 0 ∷ 0 ∷ 13 ∷ []));
+  first = found (partOf 0 false 2);
+  word = 2;
 }
 
 table : List Case
 table = case1 ∷ case2 ∷ case3 ∷ case4 ∷ case5 ∷ case6 ∷ case7 ∷ case8 ∷ case9 ∷ case10 ∷ case11 ∷ case12 ∷ []
 
-twelve : map (λ c. outcomeOf (c .book)) table ≡ map (λ c. c .outcome) table
-unfolding table case1 case2 case3 case4 case5 case6 case7 case8 case9 case10 case11 case12 outcomeOf valueAt judged readAt fieldOf ruleOf rollbackOk requestOk ifRequested leastRollback modeOk signedOf aroundOk lineOk headerOf rollbackRead requestedResource requestedRollback requestRead unheldRead heldResource entryRead entryNext heldRead startRead signedRead pieceRead pieceNext piecesRead endRead curveRead recordRead recordNext noRecords recordsRead tailRead acceptedBook refusedBook bookOf granted ran rolledBack worthIn worthAt denserThan afterAll holderFrom chainTo chainOf passed credited denser toEnd reckonOne reckon byDensity toFree grow groupOf better consider bestOf rounds circleFrom circleOf lossOf lesser offer victimOf victimsTo victimsOf knotTo knotOf settled answerBy upto padded heldFrom jobFrom laidPlan refusedPlan answered plannedOf two four bits partBytes partsBytes answerBytes
-twelve = refl
+-- the answers, the first parts by one round, and the numbers that C gets for them
+abbrev Twelve : Type 0
+Twelve =
+    (map (λ c. outcomeOf (c .book)) table ≡ map (λ c. c .outcome) table)
+    × (map (λ c. firstIn (plannedTo 1 byDensity (c .book))) table ≡ map (λ c. c .first) table)
+    × (map (λ c. firstWord (firstIn (plannedTo 1 byDensity (c .book)))) table ≡ map (λ c. c .word) table)
+
+twelve : Twelve
+unfolding table case1 case2 case3 case4 case5 case6 case7 case8 case9 case10 case11 case12 outcomeOf valueAt judged readAt fieldOf ruleOf rollbackOk requestOk ifRequested leastRollback modeOk signedOf aroundOk lineOk headerOf rollbackRead requestedResource requestedRollback requestRead unheldRead heldResource entryRead entryNext heldRead startRead signedRead pieceRead pieceNext piecesRead endRead curveRead recordRead recordNext noRecords recordsRead tailRead acceptedBook refusedBook bookOf granted ran rolledBack worthIn worthAt denserThan afterAll holderFrom chainTo chainOf passed credited denser toEnd reckonOne reckon byDensity toFree grow groupOf better consider bestOf rounds circleFrom circleOf lossOf lesser offer victimOf victimsTo victimsOf knotTo knotOf settled answerTo upto padded heldFrom jobFrom laidPlan refusedPlan answeredTo plannedTo two four bits partBytes partsBytes answerBytes firstIn word partWord firstWord
+twelve = (refl, refl, refl)
+
+-- and the whole plans' first parts
+first-parts : map (λ c. firstIn (plannedOf (c .book))) table ≡ map (λ c. c .first) table
+first-parts = sym (each table) ∙ twelve .1
+  where
+    each : (cs : List Case) → map (λ c. firstIn (plannedTo 1 byDensity (c .book))) cs ≡ map (λ c. firstIn (plannedOf (c .book))) cs
+    each [] = refl
+    each (c ∷ cs) = λ i. first-planned (c .book) i ∷ each cs i

@@ -11,18 +11,16 @@ use contract.Monad.{Fun, fact}
 use denote.Ref.{now}
 use denote.Triple.Clauses.{AtExit}
 use denote.Triple.Entry.{Args}
+use Rattle.laws.specs.Only.{Only, SameOut}
 use Rattle.ilhuepatl.specs.declared.row.RowAnswer.{RowAnswer}
 use Rattle.ilhuepatl.specs.Calls.{Outcome}
 use Rattle.ilhuepatl.specs.Rows.{RowOutcome, rowOutcomeOf}
 use Rattle.ilhuepatl.proofs.calls.plan_bytes.Reads as plan-bytes
 use Rattle.ilhuepatl.proofs.calls.ilhuepatl_plan.Reads as ilhuepatl-plan
 use Rattle.ilhuepatl.proofs.calls.ilhuepatl_record.Reads as ilhuepatl-record
+use Rattle.ilhuepatl.proofs.calls.ilhuepatl_first.Reads as ilhuepatl-first
 use Rattle.ilhuepatl.proofs.row.plan_row as plan-row
 use Rattle.ilhuepatl.proofs.row.plan_parts.Reads as plan-parts
-
--- two results that are allowed for the same arguments are the same, whatever the arguments are afterwards
-abbrev Only : {A R S : Type 0} → (A → R → S → Type 0) → Type 0
-Only {A} {R} {S} allowed = (a : A) (r r′ : R) (s s′ : S) → allowed a r s → allowed a r′ s′ → r ≡ r′
 
 plan-bytes-only : (lifetimes : Lfts 2) → Only (plan-bytes.Post lifetimes)
 plan-bytes-only lifetimes a r r′ s s′ p q = ap (λ (o : Outcome). o .verdict) (p ∙ sym q)
@@ -32,6 +30,9 @@ ilhuepatl-plan-only lifetimes a r r′ s s′ p q = p .0 ∙ sym (q .0)
 
 ilhuepatl-record-only : (lifetimes : Lfts 1) → Only (ilhuepatl-record.Post lifetimes)
 ilhuepatl-record-only lifetimes a r r′ s s′ p q = p ∙ sym q
+
+ilhuepatl-first-only : (lifetimes : Lfts 1) → Only (ilhuepatl-first.Post lifetimes)
+ilhuepatl-first-only lifetimes a r r′ s s′ p q = p ∙ sym q
 
 -- a walk by hand has no reading of its contract, so this is what `plan_row` promises, and `plan-row-says` that its contract says just this
 abbrev RowPost : (lifetimes : Lfts 2) → Args plan-row.signature lifetimes → RowAnswer → AtExit plan-row.ended lifetimes → Type 0
@@ -46,10 +47,6 @@ plan-row-only lifetimes a r r′ s s′ p q = ap (λ (o : RowOutcome). o .answer
 
 plan-parts-only : (lifetimes : Lfts 1) → Only (plan-parts.Post lifetimes)
 plan-parts-only lifetimes a r r′ s s′ p q = ap (λ (o : RowOutcome). record { answer = o .answer; parts = o .row }) (p ∙ sym q)
-
--- and so is what stands in the output, or in the row
-abbrev SameOut : {A R S B : Type 0} → (S → B) → (A → R → S → Type 0) → Type 0
-SameOut {A} {R} {S} out allowed = (a : A) (r r′ : R) (s s′ : S) → allowed a r s → allowed a r′ s′ → out s ≡ out s′
 
 plan-bytes-out : (lifetimes : Lfts 2) → SameOut (λ s. s .1 .0 .now) (plan-bytes.Post lifetimes)
 plan-bytes-out lifetimes a r r′ s s′ p q = ap (λ (o : Outcome). o .out) (p ∙ sym q)

@@ -1,5 +1,5 @@
 -- What the public calls answer, verdict and lent bytes together (01, "The answer", "What a refusal says").
-use mathlib.Core.Bool.{true, false}
+use mathlib.Core.Bool.{true, false, cond}
 use mathlib.Core.List.{List}
 use Prim.Native.Nat.{ℕ, _+_, _*_, _%_}
 use lib.Dec.{ltb}
@@ -7,7 +7,9 @@ use lib.ListN.{length}
 use Rattle.laws.specs.Stores.{over}
 use Rattle.cursor.specs.Refusal.{ROOM}
 use Rattle.book.specs.declared.question.Found.{Found}
+use Rattle.gus.specs.declared.Part.{Part}
 use Rattle.planner.specs.declared.Planned.{Planned}
+use Rattle.planner.specs.declared.FirstPart.{FirstPart}
 use Rattle.planner.specs.Planned.{plannedOf}
 use Rattle.ilhuepatl.specs.declared.Verdict.{Verdict}
 use Rattle.ilhuepatl.specs.Answer.{answerBytes}
@@ -45,4 +47,16 @@ recordWord f =
     elim (ltb 0 (f .number)) [
       | true ↦ word (verdictOf (f .number) (f .place))
       | false ↦ f .start % 65536 * 65536 + f .end % 65536
+    ]
+
+-- a part in one number, for C: the job in bits 24 to 31, the mode in bits 16 to 23, the time in bits 0 to 15
+unfoldable pub partWord : Part → ℕ
+partWord p = p .job * 16777216 + cond (p .rolling) 1 0 * 65536 + p .time
+
+-- the first part in one number, for C: a refusal as above; 0 for nothing; else the part
+unfoldable pub firstWord : FirstPart → ℕ
+firstWord f =
+    elim (ltb 0 (f .number)) [
+      | true ↦ word (verdictOf (f .number) (f .place))
+      | false ↦ elim (f .some) [ true ↦ partWord (f .part) | false ↦ 0 ]
     ]

@@ -1,4 +1,4 @@
--- The three ways a call ends: no room, a refusal, an answer.
+-- The ways each call ends: no room, a refusal, an answer.
 use mathlib.Core.Path.{_≡_, sym, ap, _∙_}
 use mathlib.Core.Bool.{Bool, true, false}
 use mathlib.Core.List.{List}
@@ -9,13 +9,14 @@ use Rattle.laws.specs.Stores.{over}
 use Rattle.cursor.specs.Refusal.{ROOM}
 use Rattle.book.specs.declared.question.Found.{Found}
 use Rattle.planner.specs.declared.Planned.{Planned}
+use Rattle.planner.specs.declared.FirstPart.{FirstPart}
 use Rattle.planner.specs.Planned.{plannedOf}
 use Rattle.ilhuepatl.specs.declared.Verdict.{Verdict}
 use Rattle.ilhuepatl.specs.Answer.{answerBytes}
-use Rattle.ilhuepatl.specs.Calls.{Outcome, verdictOf, byPlan, outcomeOf, word, recordWord}
+use Rattle.ilhuepatl.specs.Calls.{Outcome, verdictOf, byPlan, outcomeOf, word, recordWord, partWord, firstWord}
 
 -- with room the plan decides
-room : (book out : List ℕ) → 430 ≤ length out → {p : Planned} → p ≡ plannedOf book → byPlan p out ≡ outcomeOf book out
+pub room : (book out : List ℕ) → 430 ≤ length out → {p : Planned} → p ≡ plannedOf book → byPlan p out ≡ outcomeOf book out
 unfolding outcomeOf
 room book out h e = ap (λ (x : Planned). byPlan x out) e ∙ sym (ap (λ (b : Bool). elim b as (λ _. Outcome) [ true ↦ record { verdict = verdictOf ROOM 0; out = out } | false ↦ byPlan (plannedOf book) out ]) (le-ltb (length out) 430 h))
 
@@ -46,3 +47,16 @@ module _ {f g : Found} (e : f ≡ g) where
   pub word-found : f .number ≤ 0 → f .start % 65536 * 65536 + f .end % 65536 ≡ recordWord g
   unfolding recordWord
   word-found l = sym (ap (λ (b : Bool). elim b as (λ _. ℕ) [ true ↦ word (verdictOf (f .number) (f .place)) | false ↦ f .start % 65536 * 65536 + f .end % 65536 ]) (le-ltb 0 (f .number) l)) ∙ ap recordWord e
+
+-- the three ways of the first part, in one number
+abbrev pub told : FirstPart → Bool → Bool → ℕ
+told f refused some = elim refused as (λ _. ℕ) [ true ↦ word (verdictOf (f .number) (f .place)) | false ↦ elim some as (λ _. ℕ) [ true ↦ partWord (f .part) | false ↦ 0 ] ]
+
+module _ {f g : FirstPart} (e : f ≡ g) {n : ℕ} where
+  pub first-refused : 0 < f .number → n ≡ word (verdictOf (f .number) (f .place)) → n ≡ firstWord g
+  unfolding firstWord
+  first-refused l q = q ∙ sym (ap (λ (x : Bool). told f x (f .some)) (lt-ltb 0 (f .number) l)) ∙ ap firstWord e
+
+  pub first-told : (some : Bool) → f .number ≤ 0 → f .some ≡ some → n ≡ told f false some → n ≡ firstWord g
+  unfolding firstWord
+  first-told some l h q = q ∙ sym (λ i. told f (le-ltb 0 (f .number) l i) (h i)) ∙ ap firstWord e

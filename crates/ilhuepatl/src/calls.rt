@@ -1,9 +1,12 @@
 // The public calls: the plan of a book as bytes in a lent output, and the calls that C links.
 ghost use mathlib.Core.Path.{_≡_};
 ghost use Rattle.book.specs.Question.{foundIn};
-ghost use Rattle.ilhuepatl.specs.Calls.{verdictOf, outcomeOf, word, recordWord};
+ghost use Rattle.planner.specs.Planned.{plannedOf};
+ghost use Rattle.planner.specs.First.{firstIn};
+ghost use Rattle.ilhuepatl.specs.Calls.{verdictOf, outcomeOf, word, recordWord, firstWord};
 use crate::Verdict;
 use crate::answer::put_answer;
+use crate::part::part_word;
 use cursor::field::ROOM;
 
 fn verdict(number: u8, place: usize) -> Verdict
@@ -52,4 +55,20 @@ pub extern "C" fn ilhuepatl_record(bytes: &[u8], job: usize) -> u64
         return word_of(f.number, f.place);
     }
     (f.start as u64) % 65536 * 65536 + (f.end as u64) % 65536
+}
+
+// The first part of the plan for C: a refusal as above, never ROOM; 0 where there is no part; else job, mode and time.
+#[no_mangle]
+pub extern "C" fn ilhuepatl_first(book: &[u8]) -> u64
+    ensures { λ r. ⌜ r ≡ firstWord (firstIn (plannedOf (now (book .entry)))) ⌝ }
+{
+    let f = planner::first::first_part(book);
+    if 0 < f.number {
+        return word_of(f.number, f.place);
+    }
+    if f.some {
+        let part = f.part;
+        return part_word(part);
+    }
+    0
 }

@@ -1,4 +1,4 @@
-// Parts as bytes in a lent output.
+// Parts as bytes in a lent output, and one part as a number.
 ghost use mathlib.Core.Path.{_≡_};
 ghost use mathlib.Core.Bool.{cond};
 ghost use mathlib.Core.List.{_∷_};
@@ -6,6 +6,7 @@ ghost use Prim.Native.Nat.{_+_, _*_, _≤_};
 ghost use lib.ListN.{length, take};
 ghost use lib.Seq.{sets};
 ghost use Rattle.ilhuepatl.specs.Answer.{partBytes, partsBytes};
+ghost use Rattle.ilhuepatl.specs.Calls.{partWord};
 use crate::number;
 use gus::Part;
 
@@ -14,6 +15,15 @@ fn mode_of(rolling: bool) -> u8
     ensures { λ r. ⌜ r ≡ cond rolling 1 0 ⌝ }
 {
     if rolling { 1 } else { 0 }
+}
+
+// Job, mode and time from the top down, for C.
+pub(crate) fn part_word(p: Part) -> u64
+    ensures { λ r. ⌜ r ≡ partWord p ⌝ }
+{
+    let mode = mode_of(p.rolling) as u64;
+    let job = p.job as u64;
+    job * 16777216 + mode * 65536 + p.time as u64
 }
 
 fn put_part(out: &mut [u8], at: usize, p: Part)

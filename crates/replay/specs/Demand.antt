@@ -11,7 +11,7 @@ use Rattle.book.specs.Format.{bookOf}
 use Rattle.accepted.specs.Good.{Good, accepted-good}
 use Rattle.gus.specs.Choice.{Way, byDensity}
 use Rattle.gus.specs.Victims.{victimsOf, knotOf, settled}
-use Rattle.gus.specs.Plan.{Answer, answerBy}
+use Rattle.gus.specs.Plan.{Answer, answerTo, answerBy}
 use Rattle.invariants.specs.Waiting.{waits-none}
 use Rattle.invariants.specs.Fair.{Fair, by-density-fair}
 use Rattle.invariants.specs.Among.{Among}
@@ -41,7 +41,7 @@ module _ {b : Book} (g : Good b) (none : 32 ≤ knotOf (viewFrom b) (b .now)) wh
   ]
 
   pub demand3-good : {way : Way} → Fair way → Demand3 way (machineFrom b (answerFor way b .victims)) (answerFor way b .plan)
-  unfolding answerBy
+  unfolding answerTo
   demand3-good f =
       let victims : List ℕ = victimsOf (viewFrom b) (b .now) in
       keeps-demand3

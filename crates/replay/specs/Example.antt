@@ -26,7 +26,7 @@ use Rattle.gus.specs.Choice.{reckonOne, reckon, byDensity}
 use Rattle.gus.specs.Group.{toFree, partOf, grow, groupOf}
 use Rattle.gus.specs.Round.{better, consider, bestOf, Plan, stop, rounds}
 use Rattle.gus.specs.Victims.{circleFrom, circleOf, lossOf, lesser, offer, victimOf, victimsTo, victimsOf, knotTo, knotOf, settled}
-use Rattle.gus.specs.Plan.{answerBy}
+use Rattle.gus.specs.Plan.{answerTo}
 use Rattle.opening.specs.Start.{heldFrom, jobFrom}
 use Rattle.opening.specs.Planned.{viewFrom, answerFrom}
 use Rattle.ilhuepatl.specs.declared.Verdict.{Verdict}
@@ -85,7 +85,7 @@ case5 : Demand3 byDensity (machineFrom (bookOf five) (answerFrom (bookOf five) .
 case5 = demand3 five (rw book-read) (rw book-read (omega (arith, knot-none)))
 
 answer : answerFrom book ≡ record { victims = []; plan = record { parts = partOf 0 true 2 ∷ partOf 1 false 5 ∷ []; rounds = 1; total = pos 22; end = 7 } }
-unfolding heldFrom jobFrom worthAt worthIn answerBy victimsOf victimsTo victimOf offer lesser lossOf circleOf circleFrom settled rounds bestOf consider better groupOf grow toFree byDensity reckon reckonOne toEnd denser denserThan passed credited chainOf chainTo holderFrom afterAll upto granted ran rolledBack
+unfolding heldFrom jobFrom worthAt worthIn answerTo victimsOf victimsTo victimOf offer lesser lossOf circleOf circleFrom settled rounds bestOf consider better groupOf grow toFree byDensity reckon reckonOne toEnd denser denserThan passed credited chainOf chainTo holderFrom afterAll upto granted ran rolledBack
 answer = refl
 
 -- FROM BYTES TO BYTES AND BACK: what a reader finds in an output of 430 nines after the call

@@ -11,7 +11,7 @@ use Rattle.job.specs.Fit.{Fit}
 use Rattle.book.specs.Format.{bookOf}
 use Rattle.gus.specs.declared.Part.{Part}
 use Rattle.gus.specs.Victims.{victimsOf, knotOf}
-use Rattle.gus.specs.Plan.{answerBy}
+use Rattle.gus.specs.Plan.{answerTo}
 use Rattle.invariants.specs.Sound.{Sound}
 use Rattle.invariants.specs.Among.{among-at}
 use Rattle.invariants.specs.Victims.{victims-on}
@@ -41,7 +41,7 @@ module _ {js : List Job} {ps : List Part} (s : Sound js) (r : Replay js ps) wher
 
 module _ (s : List ℕ) (e : bookOf s .number ≡ 0) (none : 32 ≤ knotOf (viewFrom (bookOf s)) (bookOf s .now)) where
   victim-fits : (k : ℕ) → k < length (answerFrom (bookOf s) .victims) → getD (answerFrom (bookOf s) .victims) k 0 ≤ 255
-  unfolding answerBy
+  unfolding answerTo
   victim-fits k l =
       let victims : List ℕ = victimsOf (viewFrom (bookOf s)) (bookOf s .now) in
       omega (arith, victims-on (viewFrom (bookOf s)) (bookOf s .now) none (getD victims k 0) (among-at victims k l) .0 .node)

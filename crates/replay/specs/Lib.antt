@@ -19,11 +19,12 @@ pub mod Reads
 pub mod AllBytes
 pub mod Fits
 pub mod Later
-pub mod Ends
+pub mod Lent
 pub mod OneOfEach
 pub mod Whole
 pub mod Untouched
 pub mod Refuses
 pub mod Asked
+pub mod First
 pub mod Words
 pub mod Example

@@ -12,6 +12,7 @@ use Rattle.accepted.specs.Layout.{Bytes}
 use Rattle.accepted.specs.Kept.{BookKept}
 use Rattle.accepted.specs.Exactly.{accepted-exactly}
 use Rattle.gus.specs.declared.Part.{Part}
+use Rattle.gus.specs.Choice.{byDensity}
 use Rattle.invariants.specs.Knot.{Knotted, knot-is, knot-exactly}
 use Rattle.opening.specs.Planned.{viewFrom}
 use Rattle.planner.specs.declared.Planned.{Planned}
@@ -19,7 +20,8 @@ use Rattle.planner.specs.Planned.{laidPlan, refusedPlan, plannedOf}
 use Rattle.ilhuepatl.specs.declared.Verdict.{Verdict}
 use Rattle.ilhuepatl.specs.Calls.{verdictOf, byPlan, outcomeOf}
 use Rattle.ilhuepatl.specs.Rows.{rowOutcomeOf, byPlan as byRowPlan}
-use Rattle.replay.specs.Ends.{knotIn, Ends, refuses, knots, answers, refused-out, refused-row, ends, without-room, with-room, without-row, with-row}
+use Rattle.planner.specs.Ends.{knotIn, Ends, refuses, knots, answers, ends}
+use Rattle.replay.specs.Lent.{refused-out, refused-row, without-room, with-room, without-row, with-row}
 
 -- "a wait circle has no member that can be rolled back", and job i is on it
 abbrev pub KnottedIn : List ℕ → ℕ → Type 0
@@ -63,7 +65,7 @@ module _ (s : List ℕ) (b : Bytes s) where
   knotting = knot-exactly (viewFrom (bookOf s)) (bookOf s .now)
 
   module _ {room least : ℕ} where
-    clear : least ≤ room → bookOf s .number ≡ 0 → 32 ≤ knotIn s → InTheWay s room least → ⊥
+    pub clear : least ≤ room → bookOf s .number ≡ 0 → 32 ≤ knotIn s → InTheWay s room least → ⊥
     clear h e l (inl w) = omega arith
     clear h e l (inr (inl w)) = w (kept e)
     clear h e l (inr (inr w)) = omega (arith, knotting .1 (w .1))
@@ -104,10 +106,10 @@ module _ (s out : List ℕ) where
   unfolding laidPlan
   given-out = elim (lt-or-le (length out) 430) [
     | inl h ↦ rw (without-room s out h) (small h)
-    | inr h ↦ by h (plannedOf s) (ends s) (with-room s out h)
+    | inr h ↦ by h (plannedOf s) (ends 32 byDensity s) (with-room s out h)
   ]
     where
-      by : 430 ≤ length out → (p : Planned) → Ends s p → outcomeOf s out ≡ byPlan p out → Given s (length out) 430 (outcomeOf s out .verdict)
+      by : 430 ≤ length out → (p : Planned) → Ends 32 byDensity s p → outcomeOf s out ≡ byPlan p out → Given s (length out) 430 (outcomeOf s out .verdict)
       by h p (refuses l) q = rw (q ∙ refused-out (bookOf s .number) (bookOf s .place) l out) (reader h l)
       by h p (knots e l) q = rw (q ∙ refused-out KNOT (knotIn s) (omega arith) out) (knot h e l)
       by h p (answers e l) q = rw q (none h e l)
@@ -124,10 +126,10 @@ module _ (s : List ℕ) (row : List Part) where
   unfolding laidPlan
   given-row = elim (lt-or-le (length row) 96) [
     | inl h ↦ rw (without-row s row h) (small h)
-    | inr h ↦ by h (plannedOf s) (ends s) (with-row s row h)
+    | inr h ↦ by h (plannedOf s) (ends 32 byDensity s) (with-row s row h)
   ]
     where
-      by : 96 ≤ length row → (p : Planned) → Ends s p → rowOutcomeOf s row ≡ byRowPlan p row → Given s (length row) 96 rowVerdict
+      by : 96 ≤ length row → (p : Planned) → Ends 32 byDensity s p → rowOutcomeOf s row ≡ byRowPlan p row → Given s (length row) 96 rowVerdict
       by h p (refuses l) q = rw (q ∙ refused-row (bookOf s .number) (bookOf s .place) l row) (reader h l)
       by h p (knots e l) q = rw (q ∙ refused-row KNOT (knotIn s) (omega arith) row) (knot h e l)
       by h p (answers e l) q = rw q (none h e l)
@@ -138,9 +140,9 @@ module _ (s : List ℕ) (row : List Part) where
 -- NOTHING LENT: "Calls that lend no output never give ROOM"
 given-plan : (s : List ℕ) → Given s 0 0 (verdictOf (plannedOf s .number) (plannedOf s .place))
 unfolding laidPlan refusedPlan
-given-plan s = by (plannedOf s) (ends s)
+given-plan s = by (plannedOf s) (ends 32 byDensity s)
   where
-    by : (p : Planned) → Ends s p → Given s 0 0 (verdictOf (p .number) (p .place))
+    by : (p : Planned) → Ends 32 byDensity s p → Given s 0 0 (verdictOf (p .number) (p .place))
     by p (refuses l) = reader (omega arith) l
     by p (knots e l) = knot (omega arith) e l
     by p (answers e l) = none (omega arith) e l

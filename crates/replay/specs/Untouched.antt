@@ -8,14 +8,16 @@ use lib.ListN.{length}
 use Rattle.laws.specs.Search.{lt-or-le}
 use Rattle.cursor.specs.Refusal.{KNOT}
 use Rattle.gus.specs.declared.Part.{Part}
+use Rattle.gus.specs.Choice.{byDensity}
 use Rattle.planner.specs.declared.Planned.{Planned}
 use Rattle.planner.specs.Planned.{laidPlan, plannedOf}
 use Rattle.ilhuepatl.specs.Calls.{Outcome, byPlan, outcomeOf}
 use Rattle.ilhuepatl.specs.Rows.{RowOutcome, rowOutcomeOf, byPlan as byRowPlan}
-use Rattle.replay.specs.Ends.{Ends, refuses, knots, answers, refused-out, refused-row, ends, without-room, with-room, without-row, with-row}
+use Rattle.planner.specs.Ends.{Ends, refuses, knots, answers, ends}
+use Rattle.replay.specs.Lent.{refused-out, refused-row, without-room, with-room, without-row, with-row}
 
 module _ (s out : List ℕ) where
-  by-end : (p : Planned) → Ends s p → outcomeOf s out ≡ byPlan p out → 0 < outcomeOf s out .verdict .number → outcomeOf s out .out ≡ out
+  by-end : (p : Planned) → Ends 32 byDensity s p → outcomeOf s out ≡ byPlan p out → 0 < outcomeOf s out .verdict .number → outcomeOf s out .out ≡ out
   unfolding laidPlan
   by-end p (refuses l) q h = ap (λ (o : Outcome). o .out) (q ∙ refused-out _ _ l out)
   by-end p (knots b l) q h = ap (λ (o : Outcome). o .out) (q ∙ refused-out KNOT _ (omega arith) out)
@@ -24,11 +26,11 @@ module _ (s out : List ℕ) where
   pub plan-untouched : 0 < outcomeOf s out .verdict .number → outcomeOf s out .out ≡ out
   plan-untouched h = elim (lt-or-le (length out) 430) [
     | inl l ↦ ap (λ (o : Outcome). o .out) (without-room s out l)
-    | inr l ↦ by-end (plannedOf s) (ends s) (with-room s out l) h
+    | inr l ↦ by-end (plannedOf s) (ends 32 byDensity s) (with-room s out l) h
   ]
 
 module _ (s : List ℕ) (row : List Part) where
-  row-by-end : (p : Planned) → Ends s p → rowOutcomeOf s row ≡ byRowPlan p row → 0 < rowOutcomeOf s row .answer .number → rowOutcomeOf s row .row ≡ row
+  row-by-end : (p : Planned) → Ends 32 byDensity s p → rowOutcomeOf s row ≡ byRowPlan p row → 0 < rowOutcomeOf s row .answer .number → rowOutcomeOf s row .row ≡ row
   unfolding laidPlan
   row-by-end p (refuses l) q h = ap (λ (o : RowOutcome). o .row) (q ∙ refused-row _ _ l row)
   row-by-end p (knots b l) q h = ap (λ (o : RowOutcome). o .row) (q ∙ refused-row KNOT _ (omega arith) row)
@@ -37,5 +39,5 @@ module _ (s : List ℕ) (row : List Part) where
   pub row-untouched : 0 < rowOutcomeOf s row .answer .number → rowOutcomeOf s row .row ≡ row
   row-untouched h = elim (lt-or-le (length row) 96) [
     | inl l ↦ ap (λ (o : RowOutcome). o .row) (without-row s row l)
-    | inr l ↦ row-by-end (plannedOf s) (ends s) (with-row s row l) h
+    | inr l ↦ row-by-end (plannedOf s) (ends 32 byDensity s) (with-row s row l) h
   ]

@@ -13,7 +13,7 @@ use Rattle.book.specs.Format.{bookOf}
 use Rattle.accepted.specs.Layout.{Bytes}
 use Rattle.gus.specs.declared.Part.{Part}
 use Rattle.gus.specs.Choice.{byDensity}
-use Rattle.gus.specs.Plan.{Answer, answerBy}
+use Rattle.gus.specs.Plan.{Answer, answerTo}
 use Rattle.opening.specs.Planned.{viewFrom, answerFrom}
 use Rattle.planner.specs.declared.Planned.{Planned}
 use Rattle.planner.specs.LaidOut.{emptyPart}
@@ -30,7 +30,8 @@ use Rattle.replay.specs.AllBytes.{answer-bytes}
 use Rattle.replay.specs.Fits.{answer-fits}
 use Rattle.replay.specs.Later.{over-later, over-size}
 use Rattle.replay.specs.OneOfEach.{OneOfEach, one-of-each}
-use Rattle.replay.specs.Ends.{knotIn, Ends, refuses, knots, answers, refused-out, refused-row, ends, without-room, with-room, without-row, with-row}
+use Rattle.planner.specs.Ends.{knotIn, Ends, refuses, knots, answers, ends}
+use Rattle.replay.specs.Lent.{refused-out, refused-row, without-room, with-room, without-row, with-row}
 
 -- what is left in the output, and in the row
 abbrev pub after : List ℕ → List ℕ → List ℕ
@@ -48,7 +49,7 @@ pub record Answers (s : List ℕ) (read : Answer) : Type 0 where
   pub keeps : Demand3 byDensity (machineFrom (bookOf s) (read .victims)) (read .plan)
 
 answers-by : (s : List ℕ) {read : Answer} → bookOf s .number ≡ 0 → 32 ≤ knotIn s → read ≡ answerFrom (bookOf s) → Answers s read
-unfolding answerBy
+unfolding answerTo
 answers-by s e none q = record {
   accepted = e;
   unknotted = none;
@@ -83,7 +84,7 @@ row-not-refused : (s : List ℕ) (row : List Part) (number place : ℕ) → 0 < 
 row-not-refused s row number place l q e = omega (arith, ap (λ (o : RowOutcome). o .answer .number) (q ∙ refused-row number place l row))
 
 module _ (s out : List ℕ) where
-  certain-by : (p : Planned) → Ends s p → 430 ≤ length out → outcomeOf s out ≡ byPlan p out → outcomeOf s out .verdict .number ≡ 0 → Certain s out
+  certain-by : (p : Planned) → Ends 32 byDensity s p → 430 ≤ length out → outcomeOf s out ≡ byPlan p out → outcomeOf s out .verdict .number ≡ 0 → Certain s out
   unfolding laidPlan
   certain-by p (refuses l) h q e = absurd (not-refused s out _ _ l q e)
   certain-by p (knots b l) h q e = absurd (not-refused s out KNOT _ (omega arith) q e)
@@ -108,7 +109,7 @@ module _ (s out : List ℕ) where
   pub certain : outcomeOf s out .verdict .number ≡ 0 → Certain s out
   certain e = elim (lt-or-le (length out) 430) [
     | inl h ↦ absurd (omega (arith, ap (λ (o : Outcome). o .verdict .number) (without-room s out h)))
-    | inr h ↦ certain-by (plannedOf s) (ends s) h (with-room s out h) e
+    | inr h ↦ certain-by (plannedOf s) (ends 32 byDensity s) h (with-room s out h) e
   ]
 
   -- for C: the number 0 says the same
@@ -129,7 +130,7 @@ row-read a row = λ i. record {
 }
 
 module _ (s : List ℕ) (row : List Part) where
-  certain-row-by : (p : Planned) → Ends s p → 96 ≤ length row → rowOutcomeOf s row ≡ byRowPlan p row → rowOutcomeOf s row .answer .number ≡ 0 → CertainRow s row
+  certain-row-by : (p : Planned) → Ends 32 byDensity s p → 96 ≤ length row → rowOutcomeOf s row ≡ byRowPlan p row → rowOutcomeOf s row .answer .number ≡ 0 → CertainRow s row
   unfolding laidPlan
   certain-row-by p (refuses l) h q e = absurd (row-not-refused s row _ _ l q e)
   certain-row-by p (knots b l) h q e = absurd (row-not-refused s row KNOT _ (omega arith) q e)
@@ -146,5 +147,5 @@ module _ (s : List ℕ) (row : List Part) where
   pub certain-row : rowOutcomeOf s row .answer .number ≡ 0 → CertainRow s row
   certain-row e = elim (lt-or-le (length row) 96) [
     | inl h ↦ absurd (omega (arith, ap (λ (o : RowOutcome). o .answer .number) (without-row s row h)))
-    | inr h ↦ certain-row-by (plannedOf s) (ends s) h (with-row s row h) e
+    | inr h ↦ certain-row-by (plannedOf s) (ends 32 byDensity s) h (with-row s row h) e
   ]

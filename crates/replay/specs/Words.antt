@@ -1,8 +1,9 @@
 -- THE NUMBER THAT C GETS: what it says, and that nothing of it is lost.
-use mathlib.Core.Path.{_≡_, refl, sym}
-use mathlib.Core.Logic.{_↔_}
-use mathlib.Core.List.{List}
-use Prim.Native.Nat.{ℕ, _+_, _*_, _/_, _%_, _<_, _≤_}
+use mathlib.Core.Path.{_≡_, refl, sym, ap, _∙_}
+use mathlib.Core.Bool.{Bool, true, false, cond}
+use mathlib.Core.Logic.{inl, inr, _↔_}
+use mathlib.Core.List.{List, [], _∷_}
+use Prim.Native.Nat.{ℕ, zero, suc, _+_, _*_, _/_, _%_, _<_, _≤_}
 use native.Mathlib.Omega.{arith}
 use lib.ListN.{length}
 use Rattle.book.specs.declared.question.Found.{Found}
@@ -14,12 +15,22 @@ use Rattle.accepted.specs.Exactly.{book-back}
 use Rattle.accepted.specs.Reach.{refusal-near}
 use Rattle.accepted.specs.Spans.{accepted-laid}
 use Rattle.invariants.specs.Knot.{knot-is, knot-exactly}
-use Rattle.opening.specs.Planned.{viewFrom}
+use Rattle.gus.specs.declared.Part.{Part}
+use Rattle.cursor.specs.Refusal.{KNOT}
+use Rattle.opening.specs.Planned.{viewFrom, answerFrom}
+use Rattle.opening.specs.Opened.{accepted-opened}
+use Rattle.planner.specs.declared.FirstPart.{FirstPart}
+use Rattle.planner.specs.Planned.{plannedOf}
+use Rattle.planner.specs.First.{firstIn}
 use Rattle.ilhuepatl.specs.declared.Verdict.{Verdict}
-use Rattle.ilhuepatl.specs.Calls.{verdictOf, outcomeOf, word, recordWord}
-use Rattle.ilhuepatl.specs.Outcomes.{word-refused, word-found}
-use Rattle.replay.specs.Ends.{knotIn}
-use Rattle.replay.specs.Refuses.{Clear, Given, small, reader, knot, none, kept, not-kept, given-out}
+use Rattle.ilhuepatl.specs.Calls.{verdictOf, outcomeOf, word, recordWord, partWord, firstWord}
+use Rattle.ilhuepatl.specs.Outcomes.{word-refused, word-found, first-refused, first-told as told-first}
+use Rattle.replay.specs.Sentences.{partAt}
+use Rattle.replay.specs.Parts.{part-proper}
+use Rattle.replay.specs.Fits.{answer-fits}
+use Rattle.planner.specs.Ends.{knotIn}
+use Rattle.replay.specs.Refuses.{KnottedIn, InTheWay, Clear, Given, small, reader, knot, none, kept, not-kept, clear, given-out}
+use Rattle.replay.specs.First.{FirstGiven, broken, knotted, empty, first, first-given}
 use Rattle.replay.specs.Asked.{Asked, refused, there, missing, asked}
 
 word-number : (v : Verdict) → word v / 4294967296 ≡ v .number
@@ -34,6 +45,9 @@ no-word : word (verdictOf 0 0) ≡ 0
 unfolding word
 no-word = refl
 
+no-knot : (s : List ℕ) → 32 ≤ knotIn s → (i : ℕ) → KnottedIn s i → ⊥
+no-knot s l i y = omega (arith, knot-exactly (viewFrom (bookOf s)) (bookOf s .now) .1 (i, y))
+
 -- a verdict's place has 32 bits
 module _ (s : List ℕ) (b : Bytes s) {room least : ℕ} where
   short : {v : Verdict} → Given s room least v → v .place < 4294967296
@@ -46,7 +60,7 @@ module _ (s : List ℕ) (b : Bytes s) {room least : ℕ} where
   zero-of {v} (small h) = (λ e. absurd (omega (arith, word-number v)), λ x. absurd (omega (arith, x .0)))
   zero-of {v} (reader h l) = (λ e. absurd (omega (arith, word-number v)), λ x. absurd (not-kept s b l (x .1)))
   zero-of {v} (knot h e l) = (λ z. absurd (omega (arith, word-number v)), λ x. absurd (x .2 (knotIn s) (knot-is (viewFrom (bookOf s)) (bookOf s .now) l .0)))
-  zero-of {v} (none h e l) = (λ z. (h, kept s b e, λ i y. absurd (omega (arith, knot-exactly (viewFrom (bookOf s)) (bookOf s .now) .1 (i, y)))), λ x. no-word)
+  zero-of {v} (none h e l) = (λ z. (h, kept s b e, no-knot s l), λ x. no-word)
 
 -- THE PLAN CALL
 pub record PlanWord (s out : List ℕ) : Type 0 where
@@ -120,3 +134,82 @@ module _ (s : List ℕ) (job : ℕ) (b : Bytes s) where
 
   pub record-word : RecordWord s job (foundIn s job)
   record-word = word-of (asked s job)
+
+-- THE FIRST PART
+pub record FirstWord (s : List ℕ) (f : FirstPart) : Type 0 where
+  -- the upper half is above 0 exactly for a book that the plan refuses, and then it is the refusal's number, and the lower half its place
+  pub exactly : (0 < firstWord f / 4294967296) ↔ InTheWay s 0 0
+  pub refusal : InTheWay s 0 0 → (firstWord f / 4294967296 ≡ f .number) × (firstWord f % 4294967296 ≡ f .place)
+  -- otherwise it is the first part, whose job, mode and time come back,
+  pub part : (p : Part) (ps : List Part) → Clear s 0 0 → answerFrom (bookOf s) .plan .parts ≡ p ∷ ps → (firstWord f / 16777216 ≡ p .job) × (firstWord f / 65536 % 256 ≡ cond (p .rolling) 1 0) × (firstWord f % 65536 ≡ p .time)
+  -- and 0 exactly where the plan has no part
+  pub zero : (firstWord f ≡ 0) ↔ (Clear s 0 0 × (answerFrom (bookOf s) .plan .parts ≡ []))
+
+part-word : (p : Part) → p .job * 16777216 + cond (p .rolling) 1 0 * 65536 + p .time ≡ partWord p
+unfolding partWord
+part-word p = refl
+
+-- three numbers of 8, 8 and 16 bits, one above the other
+three : (job mode time : ℕ) → mode ≤ 255 → time ≤ 65535 → (w : ℕ) → job * 16777216 + mode * 65536 + time ≡ w → (w / 16777216 ≡ job) × (w / 65536 % 256 ≡ mode) × (w % 65536 ≡ time)
+three job mode time m t w e = (omega arith, omega arith, omega arith)
+
+mode-short : (b : Bool) → cond b 1 0 ≤ 255
+mode-short true = omega arith
+mode-short false = omega arith
+
+module _ (s : List ℕ) (b : Bytes s) where
+  first-of : {f : FirstPart} → FirstGiven s f → FirstWord s f
+  first-of {f} (broken l) =
+      let v : Verdict = verdictOf (bookOf s .number) (bookOf s .place) in
+      let w : firstWord f ≡ word v = sym (first-refused {f = f} refl l refl) in
+      record {
+        exactly = (λ x. inr (inl (not-kept s b l)), λ x. omega (arith, word-number v));
+        refusal = λ x. (rw w (word-number v), rw w (word-place v (omega (arith, refusal-near s .place))));
+        part = λ p ps c q. absurd (not-kept s b l (c .1));
+        zero = (λ z. absurd (omega (arith, word-number v)), λ x. absurd (not-kept s b l (x .0 .1)));
+      }
+  first-of {f} (knotted e l) =
+      let v : Verdict = verdictOf KNOT (knotIn s) in
+      let w : firstWord f ≡ word v = sym (first-refused {f = f} refl (omega arith) refl) in
+      let k = knot-is (viewFrom (bookOf s)) (bookOf s .now) l .0 in
+      record {
+        exactly = (λ x. inr (inr (kept s b e, (knotIn s, k))), λ x. omega (arith, word-number v));
+        refusal = λ x. (rw w (word-number v), rw w (word-place v (omega arith)));
+        part = λ p ps c q. absurd (c .2 (knotIn s) k);
+        zero = (λ z. absurd (omega (arith, word-number v)), λ x. absurd (x .0 .2 (knotIn s) k));
+      }
+  first-of {f} (empty e l q) =
+      let w : firstWord f ≡ 0 = sym (told-first {f = f} refl false (omega arith) refl refl) in
+      record {
+        exactly = (λ x. absurd (omega arith), λ x. absurd (clear s b (omega arith) e l x));
+        refusal = λ x. absurd (clear s b (omega arith) e l x);
+        part = λ p ps c r. absurd (omega (arith, ap length (sym q ∙ r)));
+        zero = (λ z. ((omega arith, kept s b e, no-knot s l), q), λ x. w);
+      }
+  first-of {f} (first p ps e l q) =
+      let parts : List Part = answerFrom (bookOf s) .plan .parts in
+      let some : 0 < length parts = omega (arith, ap length q) in
+      let fits = answer-fits s e l in
+      let head : partAt parts 0 ≡ p = ap (λ (x : List Part). partAt x 0) q in
+      let job : p .job ≤ 255 = omega (arith, fits .jobs 0 some, ap (λ (x : Part). x .job) head) in
+      let time : p .time ≤ 65535 = omega (arith, fits .times 0 some, ap (λ (x : Part). x .time) head) in
+      let above : 1 ≤ p .time = omega (arith, part-proper 0 (accepted-opened s e .planned l .replayed .replay) some .some, ap (λ (x : Part). x .time) head) in
+      let w : partWord p ≡ firstWord f = told-first {f = f} refl true (omega arith) refl refl in
+      let back = three (p .job) (cond (p .rolling) 1 0) (p .time) (mode-short (p .rolling)) time (firstWord f) (part-word p ∙ w) in
+      record {
+        exactly = (λ x. absurd (omega (arith, back .0)), λ x. absurd (clear s b (omega arith) e l x));
+        refusal = λ x. absurd (clear s b (omega arith) e l x);
+        part = λ p′ ps′ c r. let same = ap (λ (x : List Part). partAt x 0) (sym q ∙ r) in (omega (arith, back .0, ap (λ (x : Part). x .job) same), back .1 ∙ ap (λ (x : Part). cond (x .rolling) 1 0) same, omega (arith, back .2, ap (λ (x : Part). x .time) same));
+        zero = (λ z. absurd (omega (arith, back .2)), λ x. absurd (omega (arith, ap length (sym q ∙ x .1))));
+      }
+
+  pub first-word : FirstWord s (firstIn (plannedOf s))
+  first-word = first-of (first-given s)
+
+-- A PART IS NEVER 0
+pub first-told : (s : List ℕ) → Bytes s → Clear s 0 0 → 0 < length (answerFrom (bookOf s) .plan .parts) → 0 < firstWord (firstIn (plannedOf s))
+first-told s b c some = above (λ z. omega (arith, ap length (first-word s b .zero .0 z .1)))
+  where
+    above : {n : ℕ} → (n ≡ 0 → ⊥) → 0 < n
+    above {n = zero} h = absurd (h refl)
+    above {n = suc n} h = omega arith
