@@ -1,7 +1,8 @@
--- Numbers, lines and whole listings, computed: the book of 01's case 5, a circle at a later moment, and refused books.
+-- Numbers, lines, whole listings and first parts, computed: the book of 01's case 5, a circle at a later moment, refused books, and a book without a job.
 use mathlib.Core.Path.{_≡_, refl}
 use mathlib.Core.List.{List, [], _∷_, _++_}
 use Prim.Native.Nat.{ℕ}
+use Prim.Native.String.{String}
 use lib.IntN.{negsuc}
 use Rattle.laws.specs.Count.{upto}
 use Rattle.laws.specs.Fill.{padded}
@@ -19,12 +20,14 @@ use Rattle.gus.specs.Choice.{reckonOne, reckon, byDensity}
 use Rattle.gus.specs.Group.{toFree, grow, groupOf}
 use Rattle.gus.specs.Round.{better, consider, bestOf, rounds}
 use Rattle.gus.specs.Victims.{circleFrom, circleOf, lossOf, lesser, offer, victimOf, victimsTo, victimsOf, knotTo, knotOf, settled}
-use Rattle.gus.specs.Plan.{answerBy}
+use Rattle.gus.specs.Plan.{answerTo}
 use Rattle.opening.specs.Start.{heldFrom, jobFrom}
-use Rattle.planner.specs.Planned.{laidPlan, refusedPlan, answered, plannedOf}
+use Rattle.planner.specs.Planned.{laidPlan, refusedPlan, answeredTo, plannedTo}
+use Rattle.planner.specs.First.{firstIn}
 use Rattle.text.specs.Decimal.{ascii, digits, decimal, signed}
-use Rattle.text.specs.Lines.{victimWords, victimsLine, modeWord, partLine, partLines, closeLine, refusedLine}
-use Rattle.text.specs.Listing.{planText, textOf, listingOf}
+use Rattle.text.specs.Lines.{victimWords, victimsLine, modeWord, partLine, partLines, closeLine, refusedLine, unlessRefused}
+use Rattle.text.specs.Listing.{planText, listingOf}
+use Rattle.text.specs.First.{nothingLine, firstLine, firstListingOf}
 
 letters : ascii "hi -\n" ≡ 104 ∷ 105 ∷ 32 ∷ 45 ∷ 10 ∷ []
 unfolding ascii
@@ -78,9 +81,14 @@ later high low =
     ++ (0 ∷ 0 ∷ 10 ∷ high ∷ low ∷ 1 ∷ 0 ∷ 4 ∷ high ∷ low ∷ 1 ∷ 0 ∷ 0 ∷ 10 ∷ high ∷ low ∷ 1 ∷ 0 ∷ 0 ∷ 0 ∷ 0 ∷ 0 ∷ 0 ∷ 0 ∷ 50 ∷ 0 ∷ 0 ∷ 0 ∷ 0 ∷ 3 ∷ 232 ∷ [])
     ++ (0 ∷ 0 ∷ 10 ∷ high ∷ low ∷ 0 ∷ 0 ∷ 4 ∷ high ∷ low ∷ 1 ∷ 1 ∷ 0 ∷ 10 ∷ high ∷ low ∷ 1 ∷ 0 ∷ 0 ∷ 0 ∷ 0 ∷ 0 ∷ 0 ∷ 0 ∷ 20 ∷ 0 ∷ 0 ∷ 0 ∷ 0 ∷ 3 ∷ 232 ∷ [])
 
-listings : (listingOf case5 ≡ ascii "victims 0\npart 0 A 2 at 0\npart 1 N 5 at 2\ntotal 22 end 7 rounds 1\n")
-    × (listingOf (later 0 3) ≡ ascii "victims 1 1\npart 1 A 3 at 300\npart 0 N 10 at 303\ntotal 50 end 313 rounds 1\n")
-    × (listingOf (later 255 255) ≡ ascii "refused 10 at 0\n")
-    × (listingOf (0 ∷ 9 ∷ 1 ∷ 0 ∷ 33 ∷ 0 ∷ 0 ∷ 0 ∷ 0 ∷ []) ≡ ascii "refused 4 at 4\n")
-unfolding ascii digits decimal signed victimWords victimsLine modeWord partLine partLines closeLine refusedLine planText textOf listingOf valueAt judged readAt fieldOf ruleOf rollbackOk requestOk ifRequested leastRollback modeOk signedOf aroundOk lineOk headerOf rollbackRead requestedResource requestedRollback requestRead unheldRead heldResource entryRead entryNext heldRead startRead signedRead pieceRead pieceNext piecesRead endRead curveRead recordRead recordNext noRecords recordsRead tailRead acceptedBook refusedBook bookOf granted ran rolledBack worthIn worthAt denserThan afterAll holderFrom chainTo chainOf passed credited denser toEnd reckonOne reckon byDensity toFree grow groupOf better consider bestOf rounds circleFrom circleOf lossOf lesser offer victimOf victimsTo victimsOf knotTo knotOf settled answerBy upto padded heldFrom jobFrom laidPlan refusedPlan answered plannedOf
-listings = (refl, refl, refl, refl)
+-- a book's listing, and the text of its plan's first part
+abbrev Texts : List ℕ → String → String → Type 0
+Texts s listing first = (listingOf s ≡ ascii listing) × (firstListingOf s ≡ ascii first)
+
+texts : Texts case5 "victims 0\npart 0 A 2 at 0\npart 1 N 5 at 2\ntotal 22 end 7 rounds 1\n" "part 0 A 2 at 0\n"
+    × Texts (later 0 3) "victims 1 1\npart 1 A 3 at 300\npart 0 N 10 at 303\ntotal 50 end 313 rounds 1\n" "part 1 A 3 at 300\n"
+    × Texts (later 255 255) "refused 10 at 0\n" "refused 10 at 0\n"
+    × Texts (0 ∷ 9 ∷ 1 ∷ 0 ∷ 33 ∷ 0 ∷ 0 ∷ 0 ∷ 0 ∷ []) "refused 4 at 4\n" "refused 4 at 4\n"
+    × Texts (0 ∷ 9 ∷ 1 ∷ 0 ∷ 0 ∷ 0 ∷ 0 ∷ 0 ∷ 0 ∷ []) "victims 0\ntotal 0 end 0 rounds 0\n" "nothing\n"
+unfolding ascii digits decimal signed victimWords victimsLine modeWord partLine partLines closeLine refusedLine unlessRefused planText listingOf nothingLine firstLine firstListingOf valueAt judged readAt fieldOf ruleOf rollbackOk requestOk ifRequested leastRollback modeOk signedOf aroundOk lineOk headerOf rollbackRead requestedResource requestedRollback requestRead unheldRead heldResource entryRead entryNext heldRead startRead signedRead pieceRead pieceNext piecesRead endRead curveRead recordRead recordNext noRecords recordsRead tailRead acceptedBook refusedBook bookOf granted ran rolledBack worthIn worthAt denserThan afterAll holderFrom chainTo chainOf passed credited denser toEnd reckonOne reckon byDensity toFree grow groupOf better consider bestOf rounds circleFrom circleOf lossOf lesser offer victimOf victimsTo victimsOf knotTo knotOf settled answerTo upto padded heldFrom jobFrom firstIn laidPlan refusedPlan answeredTo plannedTo
+texts = ((refl, refl), (refl, refl), (refl, refl), (refl, refl), (refl, refl))

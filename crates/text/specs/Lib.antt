@@ -1,10 +1,15 @@
 pub mod Decimal
 pub mod Lines
+pub mod Room
 pub mod Listing
+pub mod First
 pub mod Wrote
 pub mod Digits
 pub mod Signs
 pub mod Loops
+pub mod Ways
+pub mod Texts
 pub mod Fits
+pub mod OneLine
 pub mod Outcomes
 pub mod Example

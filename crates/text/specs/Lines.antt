@@ -1,8 +1,9 @@
 -- The listing's lines: "Victim count, then the victims if any; job, mode (N normal, A rollback), time, start; sum, end, rounds.
 -- A refused book prints `refused NUMBER at PLACE` alone."
-use mathlib.Core.Bool.{Bool, cond}
+use mathlib.Core.Bool.{Bool, true, false, cond}
 use mathlib.Core.List.{List, [], _∷_, _++_}
 use Prim.Native.Nat.{ℕ, _+_}
+use lib.Dec.{ltb}
 use lib.IntN.{ℤ}
 use lib.ListN.{length}
 use Rattle.gus.specs.declared.Part.{Part}
@@ -34,3 +35,7 @@ closeLine total end rounds = ascii "total " ++ signed total ++ labelled (ascii "
 
 unfoldable pub refusedLine : ℕ → ℕ → List ℕ
 refusedLine number place = labelled (ascii "refused ") number ++ labelled (ascii " at ") place ++ ascii "\n"
+
+-- a text, unless a refusal stands for it: `refused NUMBER at PLACE` is printed alone
+unfoldable pub unlessRefused : ℕ → ℕ → List ℕ → List ℕ
+unlessRefused number place text = elim (ltb 0 number) [ true ↦ refusedLine number place | false ↦ text ]

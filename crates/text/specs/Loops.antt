@@ -14,7 +14,7 @@ use Rattle.text.specs.Lines.{victimWords, partLine, partLines}
 use Rattle.text.specs.Wrote.{Wrote, Writing, writing-ended}
 
 module _ {A : Type 0} (xs : List A) (d : A) (count i : ℕ) (h : i < count) (long : count ≤ length xs) where
-  left-next : drop i (take count xs) ≡ getD xs i d ∷ drop (i + 1) (take count xs)
+  pub left-next : drop i (take count xs) ≡ getD xs i d ∷ drop (i + 1) (take count xs)
   left-next =
       let size = length-take-le count xs long in
       rw add-one (drop-cons (take count xs) i d (omega arith) ∙ ap (λ (x : A). x ∷ drop (suc i) (take count xs)) (getD-take count xs i d h))

@@ -38,7 +38,7 @@ fn mode_word(rolling: bool) -> [u8; 3]
     if rolling { *b" A " } else { *b" N " }
 }
 
-fn put_part(out: &mut [u8], at: usize, p: Part, start: u64) -> usize
+pub(crate) fn put_part(out: &mut [u8], at: usize, p: Part, start: u64) -> usize
     requires { ⌜ at + length (partLine start p) ≤ length (now out) ⌝ }
     ensures { λ r. ⌜ Wrote (now (out .entry)) at (partLine start p) (now (out .exit)) r ⌝ }
 {

@@ -2,9 +2,10 @@
 ghost use mathlib.Core.Path.{_≡_};
 ghost use Prim.Native.Nat.{_≤_};
 ghost use lib.ListN.{length};
-ghost use Rattle.text.specs.Listing.{planText, listedAs, listingOutcome};
+ghost use Rattle.text.specs.Listing.{planText, listingOutcome};
+ghost use Rattle.text.specs.Room.{listedAs};
 ghost use Rattle.text.specs.Wrote.{Wrote};
-ghost use Rattle.text.specs.Outcomes.{Moment};
+ghost use Rattle.text.specs.Texts.{Moment};
 use crate::line::put_close;
 use crate::line::put_parts;
 use crate::line::put_refused;
@@ -21,7 +22,7 @@ pub struct Listed {
     pub length: usize,
 }
 
-fn answer(number: u8, length: usize) -> Listed
+pub(crate) fn answer(number: u8, length: usize) -> Listed
     ensures { λ r. ⌜ r ≡ listedAs number length ⌝ }
 {
     Listed {
@@ -32,7 +33,7 @@ fn answer(number: u8, length: usize) -> Listed
 }
 
 // The moment at which the first part starts.
-fn moment_of(s: &[u8]) -> u64
+pub(crate) fn moment_of(s: &[u8]) -> u64
     ensures { λ r. ⌜ Moment (now (s .entry)) r ⌝ }
 {
     let h = header(s);
