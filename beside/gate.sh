@@ -14,20 +14,40 @@ batches_beside_archive=20
 batches_alone=400
 seed=1
 machine=$(uname -m)
+lines=$(mktemp -d)
+trap 'rm -rf "$lines"' EXIT
 
 run() {
     cargo run --quiet --release --offline --manifest-path beside/Cargo.toml --bin "$@"
 }
 
+# The first parts of the twelve, as the listing program prints them and as the
+# second planner does.
+first_lines() {
+    for book in examples/*.book; do
+        tools/run-program target/bin/listing --first <"$book"
+    done
+}
+
+second_first_lines() {
+    for book in examples/*.book; do
+        cargo run --quiet --release --offline --manifest-path second/Cargo.toml --bin second-listing -- --first "$book"
+    done
+}
+
 {
     # An archive or a program left from an earlier state must not be compared,
     # so they are made here. It costs little where rt has just proved the crates.
-    rt check corpus
+    rt check corpus listing
     if [ "$machine" = x86_64 ]; then
         rt staticlib ilhuepatl
     fi
     cargo build --release --offline --manifest-path beside/Cargo.toml
     run beside-corpus -- --check
+    first_lines >"$lines/proved"
+    second_first_lines >"$lines/second"
+    diff "$lines/proved" "$lines/second"
+    echo "listing --first says what the second planner does of the twelve"
     if [ "$machine" = x86_64 ]; then
         run beside-compare -- "$count" "$seed" --replay
         run beside-batch -- "$batches_beside_archive" "$seed"

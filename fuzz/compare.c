@@ -105,6 +105,8 @@ static void one(const uint8_t *book, size_t length) {
         same_number("record of job", number, second_record(book, length, number),
                     ilhuepatl_record(lent, length, number), book, length);
     }
+    same_number("first part, bytes of book", length, second_first(book, length),
+                ilhuepatl_first(lent, length), book, length);
     same_bytes("the lent book after all calls", 0, book, lent, length, book, length);
 }
 

@@ -8,8 +8,10 @@
 
 uint64_t ilhuepatl_plan(const uint8_t *book, size_t book_len, uint8_t *out, size_t out_len);
 uint64_t ilhuepatl_record(const uint8_t *book, size_t book_len, size_t job);
+uint64_t ilhuepatl_first(const uint8_t *book, size_t book_len);
 
 uint64_t second_plan(const uint8_t *book, size_t book_len, uint8_t *out, size_t out_len);
 uint64_t second_record(const uint8_t *book, size_t book_len, size_t job);
+uint64_t second_first(const uint8_t *book, size_t book_len);
 
 #endif

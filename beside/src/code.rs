@@ -2,7 +2,7 @@
 //! answers and put into words.
 
 use second::refusal;
-use second::Refusal;
+use second::{Part, Refusal};
 use std::ops::Range;
 
 /// Number x 2^32 + place.
@@ -27,6 +27,22 @@ pub fn of_record(record: Option<&Range<usize>>) -> u64 {
     }
 }
 
+/// What the question of the first part must give. A part takes time, so 0 can
+/// only mean that there is none.
+pub fn of_first(first: &Result<Option<Part>, Refusal>) -> u64 {
+    match first {
+        Ok(None) => 0,
+        Ok(Some(part)) => of_part(part),
+        Err(refusal) => of_refusal(*refusal),
+    }
+}
+
+/// Job, mode and time in 8, 8 and 16 bits.
+fn of_part(part: &Part) -> u64 {
+    let time = u16::try_from(part.time).expect("a part is at most 60,000 ms long");
+    ((part.job as u64) << 24) + (u64::from(part.rollback) << 16) + u64::from(time)
+}
+
 /// A plan call's number in words.
 pub fn plan_in_words(code: u64) -> String {
     match code {
@@ -45,8 +61,48 @@ pub fn record_in_words(code: u64) -> String {
     }
 }
 
+/// The number of the question of the first part in words.
+pub fn first_in_words(code: u64) -> String {
+    let (job, mode, time) = (code >> 24, code >> 16 & 0xFF, code & 0xFFFF);
+    match code {
+        0 => "nothing".to_string(),
+        1..=0xFFFF_FFFF => format!("job {job} in mode {mode} for {time} ms"),
+        _ => refused_in_words(code),
+    }
+}
+
 fn refused_in_words(code: u64) -> String {
     let (number, place) = (code >> 32, code & 0xFFFF_FFFF);
     let name = refusal::name(u8::try_from(number).unwrap_or(0));
     format!("refused {number} ({name}) at {place}")
+}
+
+#[cfg(test)]
+mod tests {
+    use super::*;
+
+    fn part(job: usize, rollback: bool, time: i64) -> Result<Option<Part>, Refusal> {
+        Ok(Some(Part {
+            job,
+            rollback,
+            time,
+        }))
+    }
+
+    #[test]
+    fn a_first_part_as_a_number() {
+        assert_eq!(of_first(&Ok(None)), 0);
+        assert_eq!(of_first(&part(0, false, 1)), 1);
+        assert_eq!(of_first(&part(1, true, 3)), 0x0101_0003);
+        assert_eq!(of_first(&part(31, false, 60_000)), 0x1F00_EA60);
+        let knot = Refusal::new(refusal::KNOT, 5);
+        assert_eq!(of_first(&Err(knot)), 0xA_0000_0005);
+    }
+
+    #[test]
+    fn a_first_part_in_words() {
+        assert_eq!(first_in_words(0), "nothing");
+        assert_eq!(first_in_words(0x1F01_EA60), "job 31 in mode 1 for 60000 ms");
+        assert_eq!(first_in_words(0xA_0000_0005), "refused 10 (KNOT) at 5");
+    }
 }

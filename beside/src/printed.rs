@@ -1,8 +1,9 @@
 //! What the corpus program must print, as the second planner has it.
 
+use crate::code;
 use crate::hex::hex;
 use second::answer::{answer, MOST_BYTES};
-use second::{Plan, Refusal};
+use second::{Part, Plan, Refusal};
 
 /// All that it prints about a row of books.
 pub fn stdout<'a>(books: impl IntoIterator<Item = &'a [u8]>) -> String {
@@ -15,7 +16,9 @@ pub fn of_book(number: usize, book: &[u8]) -> String {
     let mut text = answer_line(number, book);
     text += &row_line(number, book);
     text += &record_line(number, book);
-    text += &listing_lines(book);
+    text += &first_lines(number, book);
+    text += &second::listing(book);
+    text += &second::first_listing(book);
     text
 }
 
@@ -43,14 +46,17 @@ fn fields(plan: &Plan) -> String {
     }
     text += " parts";
     for part in &plan.parts {
-        let mode = u8::from(part.rollback);
-        text += &format!(" {} {mode} {}", part.job, part.time);
+        text += &format!(" {}", part_fields(part));
     }
     text += &format!(
         " rounds {} total {} end {}",
         plan.rounds, plan.total, plan.end
     );
     text
+}
+
+fn part_fields(part: &Part) -> String {
+    format!("{} {} {}", part.job, u8::from(part.rollback), part.time)
 }
 
 /// The record question, for one job of the first five.
@@ -64,9 +70,16 @@ fn record_line(number: usize, book: &[u8]) -> String {
     format!("{number} record {job} {found}\n")
 }
 
-/// The listing's lines.
-fn listing_lines(book: &[u8]) -> String {
-    second::listing(book)
+/// The first part by value, and as the one number that C gets.
+fn first_lines(number: usize, book: &[u8]) -> String {
+    let first = second::first(book);
+    let word = code::of_first(&first);
+    let found = match first {
+        Ok(Some(part)) => part_fields(&part),
+        Ok(None) => "nothing".to_string(),
+        Err(refusal) => refused(refusal),
+    };
+    format!("{number} first {found}\n{number} word {word}\n")
 }
 
 fn refused(refusal: Refusal) -> String {
@@ -77,7 +90,9 @@ fn refused(refusal: Refusal) -> String {
 mod tests {
     use super::*;
 
-    /// Case 5 of 01.
+    /// Case 4 of 01: an accepted book whose plan has no part.
+    const FOUR: &[u8] = include_bytes!("../../examples/case04.book");
+    /// Case 5.
     const FIVE: &[u8] = include_bytes!("../../examples/case05.book");
     /// Case 9: a victim.
     const NINE: &[u8] = include_bytes!("../../examples/case09.book");
@@ -93,7 +108,10 @@ mod tests {
                 "0 answer 00160100020001000201000005010000001600000007\n\
                  0 row victims parts 0 1 2 1 0 5 rounds 1 total 22 end 7\n\
                  0 record 0 {record}\n\
-                 victims 0\npart 0 A 2 at 0\npart 1 N 5 at 2\ntotal 22 end 7 rounds 1\n"
+                 0 first 0 1 2\n\
+                 0 word 65538\n\
+                 victims 0\npart 0 A 2 at 0\npart 1 N 5 at 2\ntotal 22 end 7 rounds 1\n\
+                 part 0 A 2 at 0\n"
             )
         );
     }
@@ -105,7 +123,24 @@ mod tests {
             "8 answer 001701010102010100030000000a01000000320000000d\n\
              8 row victims 1 parts 1 1 3 0 0 10 rounds 1 total 50 end 13\n\
              8 record 3 none\n\
-             victims 1 1\npart 1 A 3 at 0\npart 0 N 10 at 3\ntotal 50 end 13 rounds 1\n"
+             8 first 1 1 3\n\
+             8 word 16842755\n\
+             victims 1 1\npart 1 A 3 at 0\npart 0 N 10 at 3\ntotal 50 end 13 rounds 1\n\
+             part 1 A 3 at 0\n"
+        );
+    }
+
+    #[test]
+    fn no_part() {
+        assert_eq!(
+            of_book(3, FOUR),
+            "3 answer 000e010000000000000000000000\n\
+             3 row victims parts rounds 0 total 0 end 0\n\
+             3 record 3 none\n\
+             3 first nothing\n\
+             3 word 0\n\
+             victims 0\ntotal 0 end 0 rounds 0\n\
+             nothing\n"
         );
     }
 
@@ -114,7 +149,15 @@ mod tests {
         let record = hex(&ELEVEN[second::record(ELEVEN, 1).unwrap().unwrap()]);
         assert_eq!(
             of_book(11, ELEVEN),
-            format!("11 refused 10 at 0\n11 row refused 10 at 0\n11 record 1 {record}\nrefused 10 at 0\n")
+            format!(
+                "11 refused 10 at 0\n\
+                 11 row refused 10 at 0\n\
+                 11 record 1 {record}\n\
+                 11 first refused 10 at 0\n\
+                 11 word 42949672960\n\
+                 refused 10 at 0\n\
+                 refused 10 at 0\n"
+            )
         );
     }
 
@@ -122,17 +165,14 @@ mod tests {
     fn a_refusal() {
         assert_eq!(
             of_book(2, &[]),
-            "2 refused 2 at 0\n2 row refused 2 at 0\n2 record 2 refused 2 at 0\nrefused 2 at 0\n"
+            "2 refused 2 at 0\n\
+             2 row refused 2 at 0\n\
+             2 record 2 refused 2 at 0\n\
+             2 first refused 2 at 0\n\
+             2 word 8589934592\n\
+             refused 2 at 0\n\
+             refused 2 at 0\n"
         );
-    }
-
-    #[test]
-    fn a_listing() {
-        assert_eq!(
-            listing_lines(FIVE),
-            "victims 0\npart 0 A 2 at 0\npart 1 N 5 at 2\ntotal 22 end 7 rounds 1\n"
-        );
-        assert_eq!(listing_lines(ELEVEN), "refused 10 at 0\n");
     }
 
     #[test]

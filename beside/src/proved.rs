@@ -1,4 +1,4 @@
-//! The proved planner's C face as two safe functions.
+//! The proved planner's C face as safe functions.
 //!
 //! Nothing checks the declarations below against the proved source, so they
 //! stand here once and nowhere else in Rust.
@@ -20,6 +20,14 @@ pub fn record(book: &[u8], job: usize) -> u64 {
     unsafe { face::ilhuepatl_record(book.as_ptr(), book.len(), job) }
 }
 
+/// The plan's first part: job x 2^24 + mode x 2^16 + time, or 0 if the plan has
+/// none. For a refused book number x 2^32 + place.
+#[inline]
+pub fn first(book: &[u8]) -> u64 {
+    // SAFETY: as above; nothing is written.
+    unsafe { face::ilhuepatl_first(book.as_ptr(), book.len()) }
+}
+
 #[cfg(not(no_archive))]
 mod face {
     extern "C" {
@@ -30,6 +38,7 @@ mod face {
             out_len: usize,
         ) -> u64;
         pub fn ilhuepatl_record(book: *const u8, book_len: usize, job: usize) -> u64;
+        pub fn ilhuepatl_first(book: *const u8, book_len: usize) -> u64;
     }
 }
 
@@ -42,6 +51,10 @@ mod face {
     }
 
     pub unsafe fn ilhuepatl_record(_: *const u8, _: usize, _: usize) -> u64 {
+        missing()
+    }
+
+    pub unsafe fn ilhuepatl_first(_: *const u8, _: usize) -> u64 {
         missing()
     }
 

@@ -1,6 +1,6 @@
 //! Who waits for whom, wait circles and their victims (000, Algorithm V.1).
 
-use crate::book::{Job, NEVER};
+use crate::book::{Book, Job, NEVER};
 use crate::refusal::{Refusal, KNOT};
 use crate::worth::{compare_density, worth};
 use std::cmp::Ordering;
@@ -94,8 +94,27 @@ fn loss(now: i64, job: &Job) -> (i64, i64) {
     }
 }
 
+/// A book's jobs as the first round meets them: the victims are in rollback.
+pub struct Settled {
+    pub now: i64,
+    pub jobs: Vec<Job>,
+    pub victims: Vec<usize>,
+}
+
+/// Sends one job of each circle into rollback, or gives KNOT.
+pub fn settle(book: Book) -> Result<Settled, Refusal> {
+    let victims = victims(book.now, &book.jobs)?;
+    let mut jobs = book.jobs;
+    send_back(&mut jobs, &victims);
+    Ok(Settled {
+        now: book.now,
+        jobs,
+        victims,
+    })
+}
+
 /// "It goes into rollback and loses its request."
-pub fn send_back(jobs: &mut [Job], victims: &[usize]) {
+fn send_back(jobs: &mut [Job], victims: &[usize]) {
     for &number in victims {
         jobs[number].in_rollback = true;
         jobs[number].request = None;

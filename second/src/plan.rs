@@ -1,7 +1,7 @@
 //! The plan as a value, and the call that makes it.
 
 use crate::book;
-use crate::circles;
+use crate::circles::{settle, Settled};
 use crate::refusal::Refusal;
 use crate::rounds;
 
@@ -24,9 +24,6 @@ pub struct Plan {
 
 /// Reads a book, sends the victims into rollback and plans all rounds.
 pub fn plan(bytes: &[u8]) -> Result<Plan, Refusal> {
-    let book = book::read(bytes)?;
-    let victims = circles::victims(book.now, &book.jobs)?;
-    let mut jobs = book.jobs;
-    circles::send_back(&mut jobs, &victims);
-    Ok(rounds::all(jobs, book.now, victims))
+    let Settled { now, jobs, victims } = settle(book::read(bytes)?)?;
+    Ok(rounds::all(jobs, now, victims))
 }

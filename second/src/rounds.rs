@@ -24,7 +24,7 @@ pub fn all(mut jobs: Vec<Job>, now: i64, victims: Vec<usize>) -> Plan {
         total: 0,
         end: now,
     };
-    while let Some(group) = best(&jobs, plan.end) {
+    while let Some(group) = round(&jobs, plan.end) {
         for part in &group.parts {
             jobs[part.job] = after(jobs[part.job].clone(), part);
         }
@@ -36,9 +36,9 @@ pub fn all(mut jobs: Vec<Job>, now: i64, victims: Vec<usize>) -> Plan {
     plan
 }
 
-/// "The group of greatest utility per millisecond, ties to the lowest last
-/// job, is appended if above zero." None means that the plan ends.
-fn best(jobs: &[Job], moment: i64) -> Option<Group> {
+/// One round: "the group of greatest utility per millisecond, ties to the lowest
+/// last job, is appended if above zero." None means that the plan ends.
+pub fn round(jobs: &[Job], moment: i64) -> Option<Group> {
     let mut best: Option<Group> = None;
     for last in 0..jobs.len() {
         if !jobs[last].is_left() {

@@ -6,7 +6,7 @@
 mod common;
 use common::{book, cut, job, with_length, BookOf, JobOf, LAST_TIME, NEVER};
 use second::refusal::*;
-use second::{answer, listing, plan, record};
+use second::{answer, first, first_listing, listing, plan, record};
 
 /// The refusal by every call that can give it, the record question too, and
 /// nothing written.
@@ -16,7 +16,10 @@ fn refused(bytes: &[u8], number: u8, place: usize) {
     let mut out = [7u8; 430];
     assert_eq!(answer(bytes, &mut out), Err(expected));
     assert_eq!(out, [7u8; 430]);
-    assert_eq!(listing(bytes), format!("refused {number} at {place}\n"));
+    let line = format!("refused {number} at {place}\n");
+    assert_eq!(listing(bytes), line);
+    assert_eq!(first(bytes), Err(expected));
+    assert_eq!(first_listing(bytes), line);
     if number != KNOT {
         assert_eq!(record(bytes, 0), Err(expected));
         assert_eq!(record(bytes, 99), Err(expected));

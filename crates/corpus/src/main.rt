@@ -1,6 +1,7 @@
 // The proved planner on a file of books: what each public call says of each book, held to what the second planner says of it.
 // In the file `books` each book stands behind its byte count (2 bytes), so that damaged books can stand there too.
 mod answer;
+mod first;
 mod listing;
 mod print;
 mod record;
@@ -13,7 +14,10 @@ fn book_lines(index: u64, bytes: &[u8]) {
     answer::answer_line(index, bytes);
     row::row_line(index, bytes);
     record::record_line(index, bytes);
+    first::first_line(index, bytes);
+    first::word_line(index, bytes);
     listing::listing_lines(bytes);
+    first::first_text(bytes);
 }
 
 fn lines(all: &[u8]) {

@@ -23,7 +23,7 @@ fn mode(rolling: bool) {
     }
 }
 
-fn part(p: Part) {
+pub(crate) fn part(p: Part) {
     print::text(b" ");
     print::number(p.job as u64);
     mode(p.rolling);

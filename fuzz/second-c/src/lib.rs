@@ -1,7 +1,7 @@
 //! The second planner with the same C face as the proved one, under other
 //! names, so that a harness in C can ask both.
 
-use second::Refusal;
+use second::{Part, Refusal};
 use std::slice::{from_raw_parts, from_raw_parts_mut};
 
 /// 0: accepted, and the answer stands at the start of `out`. Else number x
@@ -37,6 +37,24 @@ pub unsafe extern "C" fn second_record(book: *const u8, book_len: usize, job: us
         Ok(None) => 0,
         Err(refusal) => code(refusal),
     }
+}
+
+/// Job x 2^24 + mode x 2^16 + time of the plan's first part, or 0 if it has
+/// none. For a refused book number x 2^32 + place.
+///
+/// # Safety
+/// `book` points to `book_len` bytes.
+#[no_mangle]
+pub unsafe extern "C" fn second_first(book: *const u8, book_len: usize) -> u64 {
+    match second::first(from_raw_parts(book, book_len)) {
+        Ok(Some(part)) => word(&part),
+        Ok(None) => 0,
+        Err(refusal) => code(refusal),
+    }
+}
+
+fn word(part: &Part) -> u64 {
+    ((part.job as u64) << 24) + (u64::from(part.rollback) << 16) + part.time as u64
 }
 
 fn code(refusal: Refusal) -> u64 {

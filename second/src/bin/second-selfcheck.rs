@@ -4,7 +4,7 @@
 
 use second::make;
 use second::refusal::{self, Refusal};
-use second::{answer, check_demand3, listing, plan, record, Plan};
+use second::{answer, check_demand3, first, first_listing, listing, plan, record, Plan};
 
 fn main() {
     let mut arguments = std::env::args().skip(1);
@@ -63,6 +63,7 @@ fn check(kind: &str, book: &[u8]) -> Result<Planned, String> {
     }
     check_answer(book, &planned)?;
     check_listing(book, &planned)?;
+    check_first(book, &planned)?;
     check_records(book, &planned)?;
     Ok(planned)
 }
@@ -162,6 +163,26 @@ fn check_listing(book: &[u8], planned: &Planned) -> Result<(), String> {
             )
         }
     }
+}
+
+/// The first part is the plan's, and its line is the listing's; a refusal is the
+/// plan's too.
+fn check_first(book: &[u8], planned: &Planned) -> Result<(), String> {
+    let expected = planned.as_ref().map(|plan| plan.parts.first());
+    that(
+        first(book).as_ref().map(Option::as_ref) == expected,
+        "the first part is not the plan's",
+    )?;
+    let text = listing(book);
+    let line = match expected {
+        Ok(None) => Some("nothing"),
+        Ok(Some(_)) => text.lines().nth(1),
+        Err(_) => text.lines().next(),
+    };
+    that(
+        first_listing(book).strip_suffix('\n') == line,
+        "the first part's line is not the listing's",
+    )
 }
 
 /// The records stand one after another from the header to the book's end.

@@ -2,6 +2,8 @@
 //! so that a book can break any of them. It is apart from `second::make`.
 #![allow(dead_code)]
 
+pub mod twelve;
+
 use second::{Part, Plan};
 
 pub const NEVER: u32 = 65_535;

@@ -69,6 +69,7 @@ impl Checker {
             replayed(book, plan)?;
         }
         let questions = self.records(book)?;
+        self.first(book, &planned)?;
 
         // The book is lent to be read alone.
         same(
@@ -143,6 +144,28 @@ impl Checker {
             asked += 1;
         }
         Ok(asked)
+    }
+
+    /// The question of the first part, by both planners, and beside the proved
+    /// planner's own plan.
+    fn first(&mut self, book: &[u8], planned: &Result<Plan, Refusal>) -> Result<(), Difference> {
+        let second = code::of_first(&second::first(book));
+        same(
+            second,
+            proved::first(self.book.last(book.len())),
+            || "the first part".to_string(),
+            code::first_in_words,
+        )?;
+        let of_plan = match planned {
+            Ok(plan) => Ok(plan.parts.first().cloned()),
+            Err(refusal) => Err(*refusal),
+        };
+        same(
+            second,
+            code::of_first(&of_plan),
+            || "the first part, beside the plan's".to_string(),
+            code::first_in_words,
+        )
     }
 }
 
