@@ -1,10 +1,8 @@
 //! No time is worth printing for a wrong answer: the planners must agree first.
 
 use crate::books::Set;
-use crate::plain;
-use beside::code;
+use crate::calls::{call, Call, Planner, Question, QUESTIONS};
 use beside::hex::hex;
-use beside::proved;
 use second::answer::MOST_BYTES;
 use second::make;
 
@@ -30,29 +28,41 @@ pub fn check(sets: &[Set]) -> Result<(), String> {
 }
 
 fn all_agree(book: &[u8]) -> Result<(), String> {
-    let second = answered(|book, out| code::of_plan(&second::answer(book, out)), book);
-    same("plain", book, &second, &answered(plain::plan, book))?;
-    same("proved", book, &second, &answered(proved::plan, book))
+    for question in QUESTIONS {
+        let second = answered(call((Planner::Second, question)), book);
+        for planner in [Planner::Plain, Planner::Proved] {
+            let other = answered(call((planner, question)), book);
+            if other != second {
+                return Err(difference(question, planner, book, &second, &other));
+            }
+        }
+    }
+    Ok(())
 }
 
 /// A call's number, and the output that it left.
 type Answered = (u64, [u8; MOST_BYTES]);
 
-fn answered(plan: impl Fn(&[u8], &mut [u8]) -> u64, book: &[u8]) -> Answered {
+fn answered(call: Call, book: &[u8]) -> Answered {
     let mut out = [0xA5; MOST_BYTES];
-    (plan(book, &mut out), out)
+    (call(book, &mut out), out)
 }
 
-fn same(name: &str, book: &[u8], second: &Answered, other: &Answered) -> Result<(), String> {
-    if second == other {
-        return Ok(());
-    }
-    Err(format!(
-        "the {name} planner differs from the second one\nsecond: {} {}\n{name}: {} {}\nbook: {}",
-        code::plan_in_words(second.0),
+fn difference(
+    question: Question,
+    planner: Planner,
+    book: &[u8],
+    second: &Answered,
+    other: &Answered,
+) -> String {
+    let name = planner.name();
+    format!(
+        "the {} differs\nSecond: {} {}\n{name}: {} {}\nbook: {}",
+        question.name(),
+        question.in_words(second.0),
         hex(&second.1),
-        code::plan_in_words(other.0),
+        question.in_words(other.0),
         hex(&other.1),
         hex(book)
-    ))
+    )
 }

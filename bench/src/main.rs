@@ -1,8 +1,9 @@
-//! Times one plan by the proved planner, by the second one and by a plain
+//! Times the calls of the proved planner, of the second one and of a plain
 //! optimised one in one run, and prints the tables for docs/BENCHMARK.md.
 
 mod agree;
 mod books;
+mod calls;
 mod clock;
 mod plain;
 mod stack;
@@ -16,10 +17,11 @@ fn main() {
         eprintln!("bench: nothing is printed, since {difference}");
         std::process::exit(1);
     }
+    eprintln!("measuring");
+    let times: Vec<time::Times> = sets.iter().map(time::measure).collect();
     table::head();
-    for set in &sets {
-        table::row(set, &time::measure(set));
-    }
+    table::plans(&sets, &times);
+    table::first_parts(&sets, &times);
     table::notes();
     table::stack(&sets);
 }

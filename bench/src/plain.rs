@@ -1,6 +1,6 @@
 //! A plain optimised planner to measure the others by, written from 01's rules:
 //! arrays by job and by resource, no allocation, 32-bit times and 64-bit worths.
-//! It has the C face's two calls.
+//! It has the C face's calls.
 
 mod book;
 mod choice;
@@ -10,6 +10,7 @@ mod read;
 mod rounds;
 
 use book::Book;
+use circles::Victims;
 
 /// As the proved planner's plan call.
 pub fn plan(bytes: &[u8], out: &mut [u8]) -> u64 {
@@ -17,19 +18,15 @@ pub fn plan(bytes: &[u8], out: &mut [u8]) -> u64 {
         return ROOM << 32;
     }
     let mut book = Book::empty();
-    if let Err(refusal) = book.read(bytes) {
-        return refusal;
-    }
-    let victims = match circles::victims(&book) {
+    let victims = match settle(&mut book, bytes) {
         Ok(victims) => victims,
         Err(refusal) => return refusal,
     };
     // From here on nothing is refused, so the answer is written as it comes.
     let mut answer = Answer { out, place: 3 };
     answer.byte(victims.count);
-    for &victim in &victims.jobs[..victims.count as usize] {
+    for &victim in victims.listed() {
         answer.byte(victim);
-        book.send_back(usize::from(victim));
     }
     let part_count = answer.place;
     answer.place += 1;
@@ -42,6 +39,25 @@ pub fn plan(bytes: &[u8], out: &mut [u8]) -> u64 {
     answer.out[..2].copy_from_slice(&length.to_be_bytes());
     answer.out[2] = 1;
     0
+}
+
+/// As the proved planner's question of the first part.
+pub fn first(bytes: &[u8]) -> u64 {
+    let mut book = Book::empty();
+    match settle(&mut book, bytes) {
+        Ok(_) => rounds::first(&book),
+        Err(refusal) => refusal,
+    }
+}
+
+/// Reads into an empty book and sends one job of each circle into rollback.
+fn settle(book: &mut Book, bytes: &[u8]) -> Result<Victims, u64> {
+    book.read(bytes)?;
+    let victims = circles::victims(book)?;
+    for &victim in victims.listed() {
+        book.send_back(usize::from(victim));
+    }
+    Ok(victims)
 }
 
 /// As the proved planner's record question.

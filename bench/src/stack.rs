@@ -107,7 +107,9 @@ mod tests {
     fn a_known_depth_is_seen() {
         let mut painted = Painted::new();
         assert_eq!(painted.depth(&mut || {}), 0);
-        let depth = painted.depth(&mut || _ = black_box([1u8; 10_000]));
+        // By reference, since without optimising a value passed on stands there
+        // twice; and no constant, which would not stand on the stack at all.
+        let depth = painted.depth(&mut || _ = black_box(&[black_box(1u8); 10_000]));
         assert!((10_000..10_500).contains(&depth), "{depth}");
     }
 }

@@ -2,11 +2,51 @@
 
 use crate::agree::RANDOM_BOOKS;
 use crate::books::Set;
-use crate::plain;
+use crate::calls::Planner::{Plain, Proved, Second};
+use crate::calls::Question::{First, Plan, Reading};
+use crate::calls::{call, Asked, PLANNERS, QUESTIONS};
 use crate::stack::Painted;
-use crate::time::Times;
-use beside::proved;
+use crate::time::{Times, ROUNDS};
 use second::answer::MOST_BYTES;
+
+/// What a column says of a set.
+enum Cell {
+    /// A mean over the books.
+    Mean(fn(&[u8]) -> usize),
+    Micros(Asked),
+    /// One call's time to another's, with so many digits.
+    Ratio(Asked, Asked, usize),
+}
+
+use Cell::{Mean, Micros, Ratio};
+
+const PLANS: [(&str, Cell); 10] = [
+    ("Bytes", Mean(<[u8]>::len)),
+    ("Parts", Mean(parts)),
+    ("Proved, µs", Micros((Proved, Plan))),
+    ("Second, µs", Micros((Second, Plan))),
+    ("Plain, µs", Micros((Plain, Plan))),
+    ("Proved : plain", Ratio((Proved, Plan), (Plain, Plan), 2)),
+    ("Second : plain", Ratio((Second, Plan), (Plain, Plan), 2)),
+    ("Proved : second", Ratio((Proved, Plan), (Second, Plan), 3)),
+    ("Reading, proved, µs", Micros((Proved, Reading))),
+    (
+        "Reading, proved : plain",
+        Ratio((Proved, Reading), (Plain, Reading), 2),
+    ),
+];
+
+const FIRST_PARTS: [(&str, Cell); 6] = [
+    ("First part, proved, µs", Micros((Proved, First))),
+    ("First part, second, µs", Micros((Second, First))),
+    ("First part, plain, µs", Micros((Plain, First))),
+    ("Proved : plain", Ratio((Proved, First), (Plain, First), 2)),
+    (
+        "First part : plan, proved",
+        Ratio((Proved, First), (Proved, Plan), 3),
+    ),
+    ("Reading, proved, µs", Micros((Proved, Reading))),
+];
 
 pub fn head() {
     println!(
@@ -14,71 +54,73 @@ pub fn head() {
          on {RANDOM_BOOKS} random books.",
         processor()
     );
-    println!();
-    println!(
-        "| Books | Jobs | Bytes | Parts | Proved, µs | Second, µs | Plain, µs | Proved : plain | \
-         Second : plain | Proved : second | Reading, proved, µs | Reading, proved : plain |"
-    );
-    println!("|---|--:|--:|--:|--:|--:|--:|--:|--:|--:|--:|--:|");
 }
 
-pub fn row(set: &Set, times: &Times) {
-    println!(
-        "| {} | {} | {} | {} | {} | {} | {} | {:.2} | {:.2} | {:.3} | {} | {:.2} |",
-        set.name,
-        set.jobs,
-        mean(set, |book| book.len()),
-        mean(set, |book| second::plan(book)
-            .expect("every book was accepted")
-            .parts
-            .len()),
-        micros(times.proved),
-        micros(times.second),
-        micros(times.plain),
-        times.proved_to_plain,
-        times.second_to_plain,
-        times.proved_to_second,
-        micros(times.reading),
-        times.reading_to_plain,
-    );
+pub fn plans(sets: &[Set], times: &[Times]) {
+    print(&PLANS, sets, times);
+}
+
+pub fn first_parts(sets: &[Set], times: &[Times]) {
+    print(&FIRST_PARTS, sets, times);
+}
+
+/// A row for each set.
+fn print(columns: &[(&str, Cell)], sets: &[Set], times: &[Times]) {
+    println!();
+    let heads: Vec<&str> = columns.iter().map(|(head, _)| *head).collect();
+    println!("| Books | Jobs | {} |", heads.join(" | "));
+    println!("|---|--:|{}", "--:|".repeat(columns.len()));
+    for (set, times) in sets.iter().zip(times) {
+        let cells = columns.iter().map(|(_, cell)| cell.text(set, times));
+        let cells: Vec<String> = cells.collect();
+        println!("| {} | {} | {} |", set.name, set.jobs, cells.join(" | "));
+    }
+}
+
+impl Cell {
+    fn text(&self, set: &Set, times: &Times) -> String {
+        match *self {
+            Mean(of) => mean(set, of).to_string(),
+            Micros(asked) => format!("{:.2}", times.time(asked) / 1_000.0),
+            Ratio(asked, to, digits) => format!("{:.digits$}", times.ratio(asked, to)),
+        }
+    }
+}
+
+fn mean(set: &Set, of: fn(&[u8]) -> usize) -> usize {
+    let sum: usize = set.books.iter().map(|book| of(book)).sum();
+    (sum + set.books.len() / 2) / set.books.len()
+}
+
+fn parts(book: &[u8]) -> usize {
+    let plan = second::plan(book).expect("every book was accepted");
+    plan.parts.len()
 }
 
 pub fn notes() {
     println!();
     println!(
         "Times are microseconds of processor time for one call, the mean over the row's 16 books; \
-         medians of 25 rounds in which the calls take turns. A ratio is the median of the rounds' \
-         own ratios. Bytes and parts are means too. Reading is the record question for job 255. \
-         The books and the one output of {MOST_BYTES} bytes were touched before and stay in the \
-         cache; the output was not cleared between calls. The second planner is built for release \
-         with its overflow checks, the plain one with -O3 and without."
+         medians of {ROUNDS} rounds in which the calls take turns. A ratio is the median of the \
+         rounds' own ratios. Bytes and parts are means too. Reading is the record question for job \
+         255. The books and the one output of {MOST_BYTES} bytes were touched before and stay in \
+         the cache; the output was not cleared between calls. The second planner is built for \
+         release with its overflow checks, the plain one with -O3 and without."
     );
 }
 
 /// The deepest that each call went over all books.
 pub fn stack(sets: &[Set]) {
-    let mut painted = Painted::new();
-    let mut out = vec![0; MOST_BYTES];
-    let mut deepest = |call: &mut dyn FnMut(&[u8], &mut [u8])| {
-        let books = sets.iter().flat_map(|set| &set.books);
-        let depths = books.map(|book| painted.depth(&mut || call(book, &mut out)));
-        depths.max().unwrap_or(0)
-    };
     println!();
-    println!("| Stack of one call, bytes | Proved | Second | Plain |");
-    println!("|---|--:|--:|--:|");
-    println!(
-        "| plan | {} | {} | {} |",
-        deepest(&mut |book, out| _ = proved::plan(book, out)),
-        deepest(&mut |book, out| _ = second::answer(book, out)),
-        deepest(&mut |book, out| _ = plain::plan(book, out)),
-    );
-    println!(
-        "| record question | {} | {} | {} |",
-        deepest(&mut |book, _| _ = proved::record(book, 255)),
-        deepest(&mut |book, _| _ = second::record(book, 255)),
-        deepest(&mut |book, _| _ = plain::record(book, 255)),
-    );
+    let heads = PLANNERS.map(|planner| planner.name());
+    println!("| Stack of one call, bytes | {} |", heads.join(" | "));
+    println!("|---|{}", "--:|".repeat(heads.len()));
+    let mut painted = Painted::new();
+    for question in QUESTIONS {
+        let depths = PLANNERS.map(|planner| deepest(&mut painted, sets, (planner, question)));
+        let depths = depths.map(|depth| depth.to_string());
+        println!("| {} | {} |", question.name(), depths.join(" | "));
+    }
     println!();
     println!(
         "Measured by running the call on a stack of its own that was painted with a pattern \
@@ -88,13 +130,12 @@ pub fn stack(sets: &[Set]) {
     );
 }
 
-fn mean(set: &Set, of: impl Fn(&[u8]) -> usize) -> usize {
-    let sum: usize = set.books.iter().map(|book| of(book)).sum();
-    (sum + set.books.len() / 2) / set.books.len()
-}
-
-fn micros(nanoseconds: f64) -> String {
-    format!("{:.2}", nanoseconds / 1_000.0)
+fn deepest(painted: &mut Painted, sets: &[Set], asked: Asked) -> usize {
+    let call = call(asked);
+    let mut out = vec![0; MOST_BYTES];
+    let books = sets.iter().flat_map(|set| &set.books);
+    let depths = books.map(|book| painted.depth(&mut || _ = call(book, &mut out)));
+    depths.max().unwrap_or(0)
 }
 
 /// The processor's name as the system gives it.

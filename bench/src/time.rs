@@ -1,67 +1,55 @@
 //! Times of the calls, interleaved.
 
 use crate::books::Set;
+use crate::calls::{call, Asked, Call, PLANNERS, QUESTIONS};
 use crate::clock;
-use crate::plain;
-use beside::code;
-use beside::proved;
 use second::answer::MOST_BYTES;
 use std::hint::black_box;
 
 /// Each call is timed in every round, one after the other, so that a slow
 /// spell of the machine meets all of them.
-const ROUNDS: usize = 25;
+pub const ROUNDS: usize = 25;
 /// A round times so many nanoseconds' worth of each call at least.
 const SAMPLE: u64 = 1_000_000;
 
-/// The calls that are timed. Each gets a book and a lent output.
-type Call = fn(&[u8], &mut [u8]) -> u64;
-const CALLS: [Call; 5] = [
-    proved::plan,
-    |book, out| code::of_plan(&second::answer(book, out)),
-    plain::plan,
-    // A job number past all: nothing but reading.
-    |book, _| proved::record(book, 255),
-    |book, _| plain::record(book, 255),
-];
+/// Something for each call: by question, then by planner.
+type ByCall<T> = [[T; PLANNERS.len()]; QUESTIONS.len()];
 
-/// Medians over the rounds for one book of a set: nanoseconds, and the ratios
-/// of one round's times.
+fn by_call<T>(mut value: impl FnMut(Asked) -> T) -> ByCall<T> {
+    QUESTIONS.map(|question| PLANNERS.map(|planner| value((planner, question))))
+}
+
+fn of<T: Copy>(all: &ByCall<T>, (planner, question): Asked) -> T {
+    all[question as usize][planner as usize]
+}
+
+/// What each round measured for one book of a set, in nanoseconds.
 pub struct Times {
-    pub proved: f64,
-    pub second: f64,
-    pub plain: f64,
-    pub reading: f64,
-    pub proved_to_plain: f64,
-    pub second_to_plain: f64,
-    pub proved_to_second: f64,
-    pub reading_to_plain: f64,
+    rounds: Vec<ByCall<f64>>,
+}
+
+impl Times {
+    /// A call's median over the rounds.
+    pub fn time(&self, asked: Asked) -> f64 {
+        median(self.rounds.iter().map(|round| of(round, asked)).collect())
+    }
+
+    /// The median of the rounds' own ratios of one call to another.
+    pub fn ratio(&self, asked: Asked, to: Asked) -> f64 {
+        let ratio = |round| of(round, asked) / of(round, to);
+        median(self.rounds.iter().map(ratio).collect())
+    }
 }
 
 pub fn measure(set: &Set) -> Times {
     let mut out = vec![0; MOST_BYTES];
-    let repeats = CALLS.map(|call| {
-        let once = sample(set, &mut out, call, 1).max(1.0);
+    let repeats = by_call(|asked| {
+        let once = sample(set, &mut out, call(asked), 1).max(1.0);
         (SAMPLE as f64 / (once * set.books.len() as f64)).ceil() as u32
     });
-    let mut rounds: Vec<[f64; 5]> = Vec::new();
-    for _ in 0..ROUNDS {
-        let mut times = [0.0; 5];
-        for (at, call) in CALLS.into_iter().enumerate() {
-            times[at] = sample(set, &mut out, call, repeats[at]);
-        }
-        rounds.push(times);
-    }
-    let of = |value: fn(&[f64; 5]) -> f64| median(rounds.iter().map(value).collect());
+    let mut round = || by_call(|asked| sample(set, &mut out, call(asked), of(&repeats, asked)));
     Times {
-        proved: of(|round| round[0]),
-        second: of(|round| round[1]),
-        plain: of(|round| round[2]),
-        reading: of(|round| round[3]),
-        proved_to_plain: of(|round| round[0] / round[2]),
-        second_to_plain: of(|round| round[1] / round[2]),
-        proved_to_second: of(|round| round[0] / round[1]),
-        reading_to_plain: of(|round| round[3] / round[4]),
+        rounds: (0..ROUNDS).map(|_| round()).collect(),
     }
 }
 

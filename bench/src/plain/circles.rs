@@ -8,6 +8,12 @@ pub struct Victims {
     pub jobs: [u8; 32],
 }
 
+impl Victims {
+    pub fn listed(&self) -> &[u8] {
+        &self.jobs[..usize::from(self.count)]
+    }
+}
+
 /// On no circle, as far as is known.
 const UNSEEN: u8 = 254;
 

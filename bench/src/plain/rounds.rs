@@ -68,6 +68,19 @@ pub fn all(book: &mut Book, answer: &mut Answer) -> End {
     }
 }
 
+/// The first part of the first round's group as a number, or 0 if none is above
+/// zero.
+pub fn first(book: &Book) -> u64 {
+    let mut groups = [NO_GROUP; 2];
+    let best = best(book, book.now, &mut groups);
+    if best.from == 32 {
+        return 0;
+    }
+    let (job, rollback) = (best.job[best.from], best.rollback[best.from]);
+    let time = best.span[best.from];
+    (u64::from(job) << 24) + (u64::from(rollback) << 16) + u64::from(time)
+}
+
 /// The best group of a round. One of the two holds the best so far while the
 /// next is built in the other.
 fn best<'a>(book: &Book, moment: u32, groups: &'a mut [Group; 2]) -> &'a Group {
