@@ -40,6 +40,16 @@ uint64_t ilhuepatl_plan(const uint8_t *book, size_t book_length, uint8_t *output
    last in the lower 16. 0 where the book has no such job. A refused book gives its refusal (never ROOM or KNOT). */
 uint64_t ilhuepatl_record(const uint8_t *book, size_t book_length, size_t job);
 
+/* The part that the plan of a book begins with, without planning the rest: its job in bits 24 to 31, its mode in bits 16
+   to 23, its time in bits 0 to 15. 0 where the plan has no part. 2^32 and above is a refusal, the one that ilhuepatl_plan
+   gives (never ROOM). */
+uint64_t ilhuepatl_first(const uint8_t *book, size_t book_length);
+
+/* Of such a part: its job, its mode (1 rollback, 0 normal) and its time in milliseconds, which is never 0. */
+#define ILHUEPATL_FIRST_JOB(word) ((unsigned)((word) >> 24 & 255))
+#define ILHUEPATL_FIRST_ROLLBACK(word) ((unsigned)((word) >> 16 & 255))
+#define ILHUEPATL_FIRST_TIME(word) ((unsigned)((word) & 65535))
+
 #ifdef __cplusplus
 }
 #endif
