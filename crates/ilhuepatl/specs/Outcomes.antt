@@ -57,6 +57,6 @@ module _ {f g : FirstPart} (e : f ≡ g) {n : ℕ} where
   unfolding firstWord
   first-refused l q = q ∙ sym (ap (λ (x : Bool). told f x (f .some)) (lt-ltb 0 (f .number) l)) ∙ ap firstWord e
 
-  pub first-told : (some : Bool) → f .number ≤ 0 → f .some ≡ some → n ≡ told f false some → n ≡ firstWord g
+  pub first-answered : (some : Bool) → f .number ≤ 0 → f .some ≡ some → n ≡ told f false some → n ≡ firstWord g
   unfolding firstWord
-  first-told some l h q = q ∙ sym (λ i. told f (le-ltb 0 (f .number) l i) (h i)) ∙ ap firstWord e
+  first-answered some l h q = q ∙ sym (λ i. told f (le-ltb 0 (f .number) l i) (h i)) ∙ ap firstWord e

@@ -54,8 +54,8 @@ pub struct GroupParts {
     pub course: Course,
 }
 
-// The jobs after some rounds, the plan so far (parts 0 .. count), and the planned moment. After the last round that is made the jobs
-// are still those before it.
+// The jobs after some rounds, the plan so far (parts 0 .. count), and the planned moment. Where as many rounds are made as may be, the
+// jobs are still those before the last.
 pub struct Stage {
     pub state: State,
     pub parts: [Part; 96],

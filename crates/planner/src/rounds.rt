@@ -38,7 +38,8 @@ fn sum(total: i32, gain: i32) -> i32
 }
 
 // At most `limit` rounds. The state stands in one local: handed from function to function it would be copied each time, and that is
-// most of what a round with short chains costs. After the last round nobody asks for it, so there it is left as it was.
+// most of what a round with short chains costs. After the last round that may be made nobody asks for it, so there it is left as it
+// was.
 pub(crate) fn rounds<'a>(
     starts: &'a [u32; 256],
     values: &'a [i32; 256],

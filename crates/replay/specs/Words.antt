@@ -24,7 +24,7 @@ use Rattle.planner.specs.Planned.{plannedOf}
 use Rattle.planner.specs.First.{firstIn}
 use Rattle.ilhuepatl.specs.declared.Verdict.{Verdict}
 use Rattle.ilhuepatl.specs.Calls.{verdictOf, outcomeOf, word, recordWord, partWord, firstWord}
-use Rattle.ilhuepatl.specs.Outcomes.{word-refused, word-found, first-refused, first-told as told-first}
+use Rattle.ilhuepatl.specs.Outcomes.{word-refused, word-found, first-refused, first-answered}
 use Rattle.replay.specs.Sentences.{partAt}
 use Rattle.replay.specs.Parts.{part-proper}
 use Rattle.replay.specs.Fits.{answer-fits}
@@ -179,7 +179,7 @@ module _ (s : List ℕ) (b : Bytes s) where
         zero = (λ z. absurd (omega (arith, word-number v)), λ x. absurd (x .0 .2 (knotIn s) k));
       }
   first-of {f} (empty e l q) =
-      let w : firstWord f ≡ 0 = sym (told-first {f = f} refl false (omega arith) refl refl) in
+      let w : firstWord f ≡ 0 = sym (first-answered {f = f} refl false (omega arith) refl refl) in
       record {
         exactly = (λ x. absurd (omega arith), λ x. absurd (clear s b (omega arith) e l x));
         refusal = λ x. absurd (clear s b (omega arith) e l x);
@@ -194,7 +194,7 @@ module _ (s : List ℕ) (b : Bytes s) where
       let job : p .job ≤ 255 = omega (arith, fits .jobs 0 some, ap (λ (x : Part). x .job) head) in
       let time : p .time ≤ 65535 = omega (arith, fits .times 0 some, ap (λ (x : Part). x .time) head) in
       let above : 1 ≤ p .time = omega (arith, part-proper 0 (accepted-opened s e .planned l .replayed .replay) some .some, ap (λ (x : Part). x .time) head) in
-      let w : partWord p ≡ firstWord f = told-first {f = f} refl true (omega arith) refl refl in
+      let w : partWord p ≡ firstWord f = first-answered {f = f} refl true (omega arith) refl refl in
       let back = three (p .job) (cond (p .rolling) 1 0) (p .time) (mode-short (p .rolling)) time (firstWord f) (part-word p ∙ w) in
       record {
         exactly = (λ x. absurd (omega (arith, back .0)), λ x. absurd (clear s b (omega arith) e l x));

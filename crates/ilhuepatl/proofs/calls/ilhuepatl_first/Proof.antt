@@ -1,7 +1,7 @@
 -- `ilhuepatl::calls::ilhuepatl_first` meets its contract: a refusal, the part in one number, or nothing.
 use mathlib.Core.Path.{refl}
 use mathlib.Core.Bool.{true, false}
-use Rattle.ilhuepatl.specs.Outcomes.{first-refused, first-told}
+use Rattle.ilhuepatl.specs.Outcomes.{first-refused, first-answered}
 use borrow.Author.Needs.{needs}
 use Rattle.ilhuepatl.proofs.calls.ilhuepatl_first.Statement.{statement}
 use Rattle.ilhuepatl.proofs.calls.ilhuepatl_first.Tie as tie
@@ -19,10 +19,10 @@ part-word-requires : tie.Need-part-word-requires
 part-word-requires c κs = search needs
 
 returns-2 : tie.Need-returns-2
-returns-2 c = first-told (c .before .before .before .before .before .first-part .ensures) true (c .before .before .before .if1 .left) (c .before .before .if2 .taken) (c .part-word .ensures)
+returns-2 c = first-answered (c .before .before .before .before .before .first-part .ensures) true (c .before .before .before .if1 .left) (c .before .before .if2 .taken) (c .part-word .ensures)
 
 returns-3 : tie.Need-returns-3
-returns-3 c = first-told (c .before .before .before .first-part .ensures) false (c .before .if1 .left) (c .if2 .left) refl
+returns-3 c = first-answered (c .before .before .before .first-part .ensures) false (c .before .if1 .left) (c .if2 .left) refl
 
 pub ilhuepatl-first-spec : {M : Type 1} → statement M
 ilhuepatl-first-spec =
