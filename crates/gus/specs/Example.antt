@@ -1,9 +1,10 @@
--- Worked examples: cases 2 and 5 to 12 of 01, and a circle that job 0 is not on, computed.
+-- Worked examples: cases 2 and 5 to 12 of 01, a circle that job 0 is not on, and two circles of which one is settled, computed.
 use mathlib.Core.Path.{_≡_, refl}
-use mathlib.Core.Bool.{true, false}
-use mathlib.Core.List.{List, [], _∷_, _++_}
-use Prim.Native.Nat.{ℕ}
-use lib.ListN.{getD, replicate, set}
+use mathlib.Core.Bool.{Bool, true, false, cond}
+use mathlib.Core.List.{List, [], _∷_, _++_, map}
+use Prim.Native.Nat.{ℕ, suc}
+use lib.ListN.{getD, take, replicate, set}
+use lib.Dec.{ltb}
 use lib.IntN.{pos}
 use Rattle.laws.specs.Count.{upto}
 use Rattle.curve.specs.Density.{denserThan}
@@ -12,10 +13,10 @@ use Rattle.job.specs.declared.Request.{Request}
 use Rattle.job.specs.declared.Job.{Job}
 use Rattle.job.specs.Times.{never}
 use Rattle.job.specs.Held.{free}
-use Rattle.job.specs.Job.{noRequest, granted, ran, rolledBack}
+use Rattle.job.specs.Job.{noRequest, isLeft, granted, ran, rolledBack}
 use Rattle.gus.specs.declared.Part.{Part}
-use Rattle.gus.specs.State.{vacant, afterAll}
-use Rattle.gus.specs.Waits.{holderFrom, chainTo, chainOf}
+use Rattle.gus.specs.State.{vacant, jobAt, afterAll}
+use Rattle.gus.specs.Waits.{nobody, waitsFor, holderFrom, chainTo, chainOf}
 use Rattle.gus.specs.View.{Pay, viewOf}
 use Rattle.gus.specs.Course.{passed, credited, denser, toEnd}
 use Rattle.gus.specs.Choice.{reckonOne, reckon, byDensity}
@@ -58,9 +59,20 @@ five run rollback = job run rollback noRequest (holding 0 6 rollback none) ∷ j
 abbrev eight : List Job
 eight = job 12 never noRequest (holding 0 3 never (holding 1 8 never none)) ∷ job 2 1 (asking 1 2 1) none ∷ []
 
--- cases 9 to 11, by each job's rollback time and that of its request
+-- two jobs that hold resources r and r + 1 and ask for each other's, by each job's rollback time and that of its request
+abbrev around : ℕ → ℕ → ℕ → ℕ → ℕ → List Job
+around r own asked other otherasked = job 10 own (asking (suc r) 4 asked) (holding r 10 own none) ∷ job 10 other (asking r 4 otherasked) (holding (suc r) 10 other none) ∷ []
+
+-- cases 9 to 11
 abbrev nine : ℕ → ℕ → ℕ → ℕ → List Job
-nine own asked other otherasked = job 10 own (asking 1 4 asked) (holding 0 10 own none) ∷ job 10 other (asking 0 4 otherasked) (holding 1 10 other none) ∷ []
+nine = around 0
+
+-- case 9 twice, and after the first of its two victims was settled
+abbrev twice : List Job
+twice = book (nine 3 1 3 1 ++ around 2 3 1 3 1)
+
+abbrev firstSettled : List Job
+firstSettled = settled twice (take 1 (victimsOf (viewOf (flat (50 ∷ 20 ∷ 50 ∷ 20 ∷ [])) twice) 0))
 
 abbrev twelve : List Job
 twelve =
@@ -69,6 +81,16 @@ twelve =
     ∷ job 1 never (asking 1 1 never) none
     ∷ job 1 never (asking 0 1 never) none
     ∷ []
+
+abbrev four : List ℕ
+four = 0 ∷ 1 ∷ 2 ∷ 3 ∷ []
+
+abbrev onCircle : List Job → ℕ → Bool
+onCircle js i = ltb (circleOf (waitsFor js) i) 32
+
+-- of each of the four, whether it is one of these and then in rollback
+abbrev inRollback : (ℕ → Bool) → List Bool
+inRollback these = map (λ i. cond (these i) (jobAt firstSettled i .rolling) false) four
 
 record Cases : Type 0 where
   case2 : Plans (50 ∷ 40 ∷ []) two [] (partOf 1 false 4 ∷ partOf 0 false 10 ∷ []) 2 90 14
@@ -84,6 +106,12 @@ record Cases : Type 0 where
   case12 : Plans (0 ∷ 5 ∷ 60 ∷ 5 ∷ []) twelve [] (partOf 0 false 2 ∷ partOf 1 false 3 ∷ partOf 2 false 1 ∷ partOf 1 false 6 ∷ partOf 3 false 1 ∷ []) 2 70 13
   -- the victims of case 9 behind a job that waits for nobody
   behind-job-0 : victimsOf (viewOf (flat (7 ∷ 50 ∷ 20 ∷ [])) (book (job 1 1 noRequest none ∷ nine 3 1 3 1))) 0 ≡ 2 ∷ []
+  -- R-8: job 1, the first victim, has not ended, is in rollback and on no circle any more; no member of the second circle is in rollback
+  circles-before : map (circleOf (waitsFor twice)) four ≡ 0 ∷ 0 ∷ 2 ∷ 2 ∷ []
+  circles-then : map (circleOf (waitsFor firstSettled)) four ≡ nobody ∷ nobody ∷ 2 ∷ 2 ∷ []
+  modes-then : map (λ i. jobAt firstSettled i .rolling) four ≡ false ∷ true ∷ false ∷ false ∷ []
+  left-then : map (λ i. isLeft (jobAt firstSettled i)) four ≡ true ∷ true ∷ true ∷ true ∷ []
+  none-in-rollback : inRollback (onCircle firstSettled) ≡ false ∷ false ∷ false ∷ false ∷ []
 
 cases : Cases
 unfolding answerTo victimsOf victimsTo victimOf offer lesser lossOf circleOf circleFrom knotOf knotTo settled rounds bestOf consider better groupOf grow toFree byDensity reckon reckonOne toEnd denser denserThan passed credited chainOf chainTo holderFrom afterAll upto granted ran rolledBack
@@ -99,4 +127,9 @@ cases = record {
   case11 = refl;
   case12 = refl;
   behind-job-0 = refl;
+  circles-before = refl;
+  circles-then = refl;
+  modes-then = refl;
+  left-then = refl;
+  none-in-rollback = refl;
 }

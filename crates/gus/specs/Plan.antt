@@ -11,11 +11,12 @@ pub record Answer : Type 0 where
   pub victims : List ℕ
   pub plan : Plan
 
--- the plan of at most n rounds after the victims went into rollback
+-- by these victims: the plan of at most n rounds after they went into rollback
+abbrev pub answerAfter : ℕ → Way → Pay → List Job → ℕ → List ℕ → Answer
+answerAfter n way pay js now victims = record { victims = victims; plan = rounds n way pay (settled js victims) now }
+
 unfoldable pub answerTo : ℕ → Way → Pay → List Job → ℕ → Answer
-answerTo n way pay js now =
-    let victims = victimsOf (viewOf pay js) now in
-    record { victims = victims; plan = rounds n way pay (settled js victims) now }
+answerTo n way pay js now = answerAfter n way pay js now (victimsOf (viewOf pay js) now)
 
 -- no more rounds than jobs, since each ends one
 abbrev pub answerBy : Way → Pay → List Job → ℕ → Answer

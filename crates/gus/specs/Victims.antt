@@ -1,9 +1,8 @@
--- Wait circles and their victims (V.1, with 01's loss).
+-- Wait circles and their victims (V.1, with 01's loss, but for a line of it that R-8 took out).
 use mathlib.Core.Bool.{true, false}
 use mathlib.Core.List.{List, [], _∷_, _++_}
 use Prim.Native.Nat.{ℕ, zero, suc, _+_, min}
 use lib.Dec.{eqb, leb}
-use lib.IntN.{pos}
 use lib.ListN.{set}
 use Rattle.laws.specs.Count.{upto}
 use Rattle.job.specs.declared.Job.{Job}
@@ -30,12 +29,10 @@ circleFrom waits (suc n) home j low =
 unfoldable pub circleOf : (ℕ → ℕ) → ℕ → ℕ
 circleOf waits i = circleFrom waits 32 i (waits i) i
 
--- "least loss: worth at now + run time left, divided by run time left; for a job in rollback, 0"
+-- "least loss: worth at now + run time left, divided by run time left". 01 goes on "for a job in rollback, 0"; that is left out, since no
+-- member of a circle is in rollback (R-8; opening/specs/CircleModes.antt).
 unfoldable pub lossOf : View → ℕ → ℕ → Course
-lossOf v t i = elim (v .rolling i) [
-  | true ↦ record { time = 1; gain = pos 0 }
-  | false ↦ record { time = v .run i; gain = v .worth i (t + v .run i) }
-]
+lossOf v t i = record { time = v .run i; gain = v .worth i (t + v .run i) }
 
 -- job i against the best victim of those before it: "Ties go to the lowest number"
 unfoldable pub lesser : ℕ → Course → Best → Best

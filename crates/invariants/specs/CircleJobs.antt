@@ -1,12 +1,12 @@
--- The jobs on a wait circle are left and normal; so among sound jobs a victim's loss is a fraction, and it is the least.
+-- The jobs on a wait circle are left; so among sound jobs a victim's loss is a fraction, and it is the least.
 use Prim.Native.Nat.{ℕ, zero, suc, _<_, _≤_}
 use native.Mathlib.Nat.{not-suc-le-zero}
 use native.Mathlib.Omega.{arith}
-use mathlib.Core.Path.{_≡_, refl, sym, _∙_}
-use mathlib.Core.Bool.{Bool, true, false}
+use mathlib.Core.Path.{_≡_, sym, _∙_}
+use mathlib.Core.Bool.{true}
 use mathlib.Core.List.{List}
 use Rattle.laws.specs.Walk.{follow, follow-last, step-in}
-use Rattle.laws.specs.Circle.{OnCircle, circle-in, circle-stays}
+use Rattle.laws.specs.Circle.{OnCircle, circle-stays}
 use Rattle.job.specs.declared.Job.{Job}
 use Rattle.gus.specs.State.{jobAt}
 use Rattle.gus.specs.Waits.{waitsFor}
@@ -14,7 +14,6 @@ use Rattle.gus.specs.View.{Pay, viewOf}
 use Rattle.gus.specs.Victims.{lossOf, victimOf}
 use Rattle.invariants.specs.Sound.{Sound, Member, holder-left}
 use Rattle.invariants.specs.Holders.{holder-holds}
-use Rattle.invariants.specs.Waiting.{waits-none}
 use Rattle.invariants.specs.Circles.{circle-met}
 use Rattle.invariants.specs.Winner.{Timed, Wins}
 use Rattle.invariants.specs.Victim.{Candidate, losesLess, victim-least}
@@ -32,20 +31,10 @@ module _ {js : List Job} (s : Sound js) where
           let r : ℕ = jobAt js x .request .resource in
           rw w at (holder-left s (waitsFor js x) r (holder-holds s r (omega (arith, c .node))))
 
-  -- it asks for something, and a job in rollback does not
-  pub circle-normal : {i : ℕ} → OnCircle (waitsFor js) 32 i → jobAt js i .rolling ≡ false
-  circle-normal {i} c = go (jobAt js i .rolling) refl
-    where
-      go : (b : Bool) → jobAt js i .rolling ≡ b → jobAt js i .rolling ≡ false
-      go false e = e
-      go true e = absurd (omega (arith, circle-in c, waits-none s i (s .fit i .rolls e)))
-
   module _ (pay : Pay) (t low : ℕ) (l : low < 32) where
     timed : Timed losesLess (Candidate (viewOf pay js) low) (lossOf (viewOf pay js) t)
     unfolding lossOf
-    timed = record {
-      some = λ i m. let c : OnCircle (waitsFor js) 32 i = circle-met (waitsFor js) i (omega (arith, m .member)) in rw (circle-normal c, lossOf) (circle-left c .run-some);
-    }
+    timed = record { some = λ i m. circle-left (circle-met (waitsFor js) i (omega (arith, m .member))) .run-some }
 
     pub least-loss : victimOf (viewOf pay js) t low .some ≡ true → Wins losesLess (Candidate (viewOf pay js) low) (lossOf (viewOf pay js) t) 32 (victimOf (viewOf pay js) t low .last)
     least-loss e = victim-least (viewOf pay js) t low timed e

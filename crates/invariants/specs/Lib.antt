@@ -31,5 +31,8 @@ pub mod Victims
 pub mod Settled
 pub mod Sent
 pub mod Start
+pub mod CircleModes
+pub mod SameVictims
+pub mod Loss
 pub mod Answer
 pub mod Example

@@ -15,9 +15,12 @@ use Rattle.invariants.specs.Sound.{Sound, free-past}
 use Rattle.invariants.specs.Proper.{Proper, at-other, at-request, holder-after, sound-after}
 use Rattle.invariants.specs.Holders.{holder, holder-is, holder-free}
 
+pub holder-past : {js : List Job} → Sound js → (r : ℕ) → 32 ≤ r → holderOf js r ≡ nobody
+holder-past s r l = holder-free r (free-past s r l)
+
 -- a job without a request waits for nobody
 pub waits-none : {js : List Job} → Sound js → (i : ℕ) → 32 ≤ jobAt js i .request .resource → waitsFor js i ≡ nobody
-waits-none {js} s i l = holder-free (jobAt js i .request .resource) (free-past s (jobAt js i .request .resource) l)
+waits-none {js} s i l = holder-past s (jobAt js i .request .resource) l
 
 -- Afterwards the part's job waits for nobody, and each other job for whom it waited for, or for nobody, or for that job.
 pub no-circle-after : {js : List Job} {p : Part} → Sound js → Proper js p → NoCircle (waitsFor js) 32 → NoCircle (waitsFor (after js p)) 32

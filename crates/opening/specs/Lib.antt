@@ -10,3 +10,4 @@ pub mod Modest
 pub mod Few
 pub mod Planned
 pub mod Opened
+pub mod CircleModes

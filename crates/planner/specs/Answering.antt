@@ -36,7 +36,7 @@ use Rattle.planner.specs.Laid.{laid}
 use Rattle.planner.specs.LaidView.{laid-view}
 use Rattle.planner.specs.Listing.{listed}
 use Rattle.planner.specs.Settling.{Handed, victimsIn}
-use Rattle.planner.specs.Handing.{modest-without, same-listed, listed-victims, listed-handed}
+use Rattle.planner.specs.Handing.{modest-for-victims, same-listed, listed-victims, listed-handed}
 use Rattle.planner.specs.Holding.{Holding, agreeing}
 use Rattle.planner.specs.Fitting.{Sane}
 use Rattle.planner.specs.Staged.{Rounded}
@@ -69,10 +69,10 @@ module _ (starts : List ℕ) (values slopes : List ℤ) (counts ends : List ℕ)
   laid-is : seen starts values slopes counts ends (l .run) (l .rollback) (l .hold) (l .undo) (l .rolling) (l .left) (l .waits) ≡ viewOf (paid starts values slopes counts ends) (s .jobs)
   laid-is = rw e (laid-view s (agreeing (a .sound) (a .holding)) starts values slopes counts ends)
 
-  pub waits-modest : Modest (seenWaits starts values slopes counts ends (l .run) (l .rollback) (l .rolling) (l .waits))
-  waits-modest = modest-without {v = seen starts values slopes counts ends (l .run) (l .rollback) (l .hold) (l .undo) (l .rolling) (l .left) (l .waits)} (rw laid-is (modest (paid starts values slopes counts ends) (a .worth) (a .sound) (a .small)))
+  pub waits-modest : Modest (seenWaits starts values slopes counts ends (l .run) (l .rollback) (l .waits))
+  waits-modest = modest-for-victims {v = seen starts values slopes counts ends (l .run) (l .rollback) (l .hold) (l .undo) (l .rolling) (l .left) (l .waits)} (rw laid-is (modest (paid starts values slopes counts ends) (a .worth) (a .sound) (a .small)))
 
-  pub victims-are : {v : Victims} → v ≡ listed (seenWaits starts values slopes counts ends (l .run) (l .rollback) (l .rolling) (l .waits)) now → v ≡ listed (viewOf (paid starts values slopes counts ends) (s .jobs)) now
+  pub victims-are : {v : Victims} → v ≡ listed (seenWaits starts values slopes counts ends (l .run) (l .rollback) (l .waits)) now → v ≡ listed (viewOf (paid starts values slopes counts ends) (s .jobs)) now
   victims-are d = d ∙ same-listed (seen starts values slopes counts ends (l .run) (l .rollback) (l .hold) (l .undo) (l .rolling) (l .left) (l .waits)) now ∙ ap (λ (v : View). listed v now) laid-is
 
 module _ (pay : Pay) (s : State) (now : ℕ) {v : Victims} (e : v ≡ listed (viewOf pay (s .jobs)) now) where

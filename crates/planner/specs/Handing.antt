@@ -1,16 +1,16 @@
 -- What the caller has of the array of victims: they are those of the definition, by any view of the same jobs, and each is a job.
-use mathlib.Core.Path.{_≡_, refl, ap, _∙_}
+use mathlib.Core.Path.{_≡_, refl, _∙_}
 use mathlib.Core.Bool.{Bool, true, false}
 use mathlib.Core.List.{List, [], _∷_, _++_}
 use Prim.Native.Nat.{ℕ, zero, suc, _-_, _<_}
 use native.Mathlib.Omega.{arith}
-use lib.Dec.{eqb, leb}
+use lib.Dec.{eqb}
 use lib.ListN.{length, getD, replicate, length-append, length-replicate}
 use lib.Seq.{take-append-seam}
 use Rattle.laws.specs.Fill.{padded}
-use Rattle.gus.specs.Waits.{nobody}
 use Rattle.gus.specs.View.{View}
-use Rattle.gus.specs.Victims.{circleOf, lossOf, offer, victimOf, victimsTo, victimsOf, knotTo, knotOf}
+use Rattle.gus.specs.Victims.{circleOf, lossOf, victimOf, victimsTo, victimsOf}
+use Rattle.invariants.specs.SameVictims.{AlikeForVictims, same-victims, same-knot}
 use Rattle.planner.specs.Bounds.{Modest}
 use Rattle.planner.specs.Offering.{victim-below}
 use Rattle.planner.specs.Placed.{zeros-below}
@@ -18,20 +18,20 @@ use Rattle.planner.specs.Listing.{listed, few}
 use Rattle.planner.specs.Settling.{Handed, victimsIn}
 
 -- the view without what no victim depends on; of any view of lent arrays it is `seenWaits`
-abbrev pub withoutHolds : View → View
-withoutHolds v = record {
+abbrev pub forVictims : View → View
+forVictims v = record {
   left = λ i. false;
   waits = v .waits;
   hold = λ i. 0;
   undo = λ i. 0;
   run = v .run;
   rollback = v .rollback;
-  rolling = v .rolling;
+  rolling = λ i. false;
   worth = v .worth;
 }
 
-pub modest-without : {v : View} → Modest v → Modest (withoutHolds v)
-modest-without m = record { hold = λ i. omega arith; undo = λ i. omega arith; run = m .run; rollback = m .rollback; worth = m .worth }
+pub modest-for-victims : {v : View} → Modest v → Modest (forVictims v)
+modest-for-victims m = record { hold = λ i. omega arith; undo = λ i. omega arith; run = m .run; rollback = m .rollback; worth = m .worth }
 
 append-below : (l m : List ℕ) → ((k : ℕ) → getD l k 0 < 32) → ((k : ℕ) → getD m k 0 < 32) → (k : ℕ) → getD (l ++ m) k 0 < 32
 append-below [] m p q k = q k
@@ -39,22 +39,13 @@ append-below (x ∷ l) m p q zero = p 0
 append-below (x ∷ l) m p q (suc k) = append-below l m (λ j. p (suc j)) q k
 
 module _ (v : View) (t : ℕ) where
-  same-victims : (n : ℕ) → victimsTo (withoutHolds v) t n ≡ victimsTo v t n
-  unfolding victimsTo victimOf offer lossOf
-  same-victims zero = refl
-  same-victims (suc n) = ap (λ (l : List ℕ). l ++ elim (eqb (circleOf (v .waits) n) n) [ true ↦ victimOf v t n .last ∷ [] | false ↦ [] ]) (same-victims n)
+  alike : AlikeForVictims (forVictims v) v t
+  unfolding lossOf
+  alike = record { waits = refl; rollback = refl; loss = λ i c. refl }
 
-  same-knot : (n : ℕ) → knotTo (withoutHolds v) t n ≡ knotTo v t n
-  unfolding knotTo victimOf offer lossOf
-  same-knot zero = refl
-  same-knot (suc n) = ap (λ (k : ℕ). elim (leb 32 k) [
-    | true ↦ elim (eqb (circleOf (v .waits) n) n) [ true ↦ elim (victimOf v t n .some) [ true ↦ nobody | false ↦ n ] | false ↦ nobody ]
-    | false ↦ k
-  ]) (same-knot n)
-
-  pub same-listed : listed (withoutHolds v) t ≡ listed v t
-  unfolding listed victimsOf knotOf
-  same-listed = rw (same-victims 32, same-knot 32)
+  pub same-listed : listed (forVictims v) t ≡ listed v t
+  unfolding listed
+  same-listed = rw (same-victims alike, same-knot alike)
 
   pub listed-victims : victimsIn (listed v t) ≡ victimsOf v t
   unfolding listed padded

@@ -35,5 +35,6 @@ pub mod Staged
 pub mod Planned
 pub mod Answering
 pub mod Ends
+pub mod Unchanged
 pub mod First
 pub mod Counted

@@ -17,9 +17,9 @@ use Rattle.gus.specs.Round.{noBest}
 use Rattle.gus.specs.Victims.{circleOf, lossOf, lesser, offer, victimOf}
 use Rattle.planner.specs.Seen.{seen}
 
--- the view for what asks neither who is left nor for holds
-abbrev pub seenWaits : List ℕ → List ℤ → List ℤ → List ℕ → List ℕ → List ℕ → List ℕ → List Bool → List ℕ → View
-seenWaits starts values slopes counts ends run rollback rolling waits = seen starts values slopes counts ends run rollback [] [] rolling [] waits
+-- the view for what asks neither who is left nor for holds nor for modes
+abbrev pub seenWaits : List ℕ → List ℤ → List ℤ → List ℕ → List ℕ → List ℕ → List ℕ → List ℕ → View
+seenWaits starts values slopes counts ends run rollback waits = seen starts values slopes counts ends run rollback [] [] [] [] waits
 
 abbrev pub taken : ℕ → Course → Best
 taken job c = record { some = true; last = job; course = c }

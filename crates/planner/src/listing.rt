@@ -44,14 +44,13 @@ fn list_victims<'a>(
     ends: &'a [u32; 32],
     run: &'a [u32; 32],
     rollback: &'a [u32; 32],
-    rolling: &'a [bool; 32],
     waits: &'a [u8; 32],
     circles: &'a [u8; 32],
     t: u32,
 ) -> Victims
-    requires { ⌜ Modest (seenWaits (now starts) (now values) (now slopes) (now counts) (now ends) (now run) (now rollback) (now rolling) (now waits)) ⌝ }
+    requires { ⌜ Modest (seenWaits (now starts) (now values) (now slopes) (now counts) (now ends) (now run) (now rollback) (now waits)) ⌝ }
     requires { ⌜ (t ≤ 4_000_000_000) × (now circles ≡ circlesOf (waiting (now waits))) ⌝ }
-    ensures { λ r. ⌜ r ≡ listed (seenWaits (now (starts .entry)) (now (values .entry)) (now (slopes .entry)) (now (counts .entry)) (now (ends .entry)) (now (run .entry)) (now (rollback .entry)) (now (rolling .entry)) (now (waits .entry))) t ⌝ }
+    ensures { λ r. ⌜ r ≡ listed (seenWaits (now (starts .entry)) (now (values .entry)) (now (slopes .entry)) (now (counts .entry)) (now (ends .entry)) (now (run .entry)) (now (rollback .entry)) (now (waits .entry))) t ⌝ }
 {
     let mut v = Victims {
         list: [0u8; 32],
@@ -70,7 +69,6 @@ fn list_victims<'a>(
                 ends,
                 run,
                 rollback,
-                rolling,
                 waits,
                 circles,
                 low,
@@ -91,13 +89,12 @@ pub(crate) fn victims<'a>(
     ends: &'a [u32; 32],
     run: &'a [u32; 32],
     rollback: &'a [u32; 32],
-    rolling: &'a [bool; 32],
     waits: &'a [u8; 32],
     t: u32,
 ) -> Victims
-    requires { ⌜ Modest (seenWaits (now starts) (now values) (now slopes) (now counts) (now ends) (now run) (now rollback) (now rolling) (now waits)) ⌝ }
+    requires { ⌜ Modest (seenWaits (now starts) (now values) (now slopes) (now counts) (now ends) (now run) (now rollback) (now waits)) ⌝ }
     requires { ⌜ t ≤ 4_000_000_000 ⌝ }
-    ensures { λ r. ⌜ r ≡ listed (seenWaits (now (starts .entry)) (now (values .entry)) (now (slopes .entry)) (now (counts .entry)) (now (ends .entry)) (now (run .entry)) (now (rollback .entry)) (now (rolling .entry)) (now (waits .entry))) t ⌝ }
+    ensures { λ r. ⌜ r ≡ listed (seenWaits (now (starts .entry)) (now (values .entry)) (now (slopes .entry)) (now (counts .entry)) (now (ends .entry)) (now (run .entry)) (now (rollback .entry)) (now (waits .entry))) t ⌝ }
 {
     let found = circles(waits);
     list_victims(
@@ -108,7 +105,6 @@ pub(crate) fn victims<'a>(
         ends,
         run,
         rollback,
-        rolling,
         waits,
         &found,
         t,

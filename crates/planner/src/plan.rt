@@ -122,7 +122,6 @@ fn answer<'a>(
         ends,
         &l.run,
         &l.rollback,
-        &l.rolling,
         &l.waits,
         t,
     );

@@ -11,7 +11,7 @@ use gus::Course;
 
 const NEVER: u32 = 65535;
 
-// "worth at now + run time left, divided by run time left; for a job in rollback, 0"
+// "worth at now + run time left, divided by run time left"; no member of a circle is in rollback (R-8).
 fn loss_of<'a>(
     starts: &'a [u32; 256],
     values: &'a [i32; 256],
@@ -20,18 +20,14 @@ fn loss_of<'a>(
     ends: &'a [u32; 32],
     run: &'a [u32; 32],
     rollback: &'a [u32; 32],
-    rolling: &'a [bool; 32],
     waits: &'a [u8; 32],
     job: usize,
     t: u32,
 ) -> Course
-    requires { ⌜ Modest (seenWaits (now starts) (now values) (now slopes) (now counts) (now ends) (now run) (now rollback) (now rolling) (now waits)) ⌝ }
+    requires { ⌜ Modest (seenWaits (now starts) (now values) (now slopes) (now counts) (now ends) (now run) (now rollback) (now waits)) ⌝ }
     requires { ⌜ (job < 32) × (t ≤ 4_000_000_000) ⌝ }
-    ensures { λ r. ⌜ r ≡ lossOf (seenWaits (now (starts .entry)) (now (values .entry)) (now (slopes .entry)) (now (counts .entry)) (now (ends .entry)) (now (run .entry)) (now (rollback .entry)) (now (rolling .entry)) (now (waits .entry))) t job ⌝ }
+    ensures { λ r. ⌜ r ≡ lossOf (seenWaits (now (starts .entry)) (now (values .entry)) (now (slopes .entry)) (now (counts .entry)) (now (ends .entry)) (now (run .entry)) (now (rollback .entry)) (now (waits .entry))) t job ⌝ }
 {
-    if rolling[job] {
-        return Course { time: 1, gain: 0 };
-    }
     let time = run[job];
     let worth = curve::worth_of(starts, values, slopes, counts, ends, job, t + time);
     let gain = worth as i32;
@@ -65,7 +61,6 @@ fn offer<'a>(
     ends: &'a [u32; 32],
     run: &'a [u32; 32],
     rollback: &'a [u32; 32],
-    rolling: &'a [bool; 32],
     waits: &'a [u8; 32],
     circles: &'a [u8; 32],
     low: u8,
@@ -73,9 +68,9 @@ fn offer<'a>(
     t: u32,
     b: Best,
 ) -> Best
-    requires { ⌜ Modest (seenWaits (now starts) (now values) (now slopes) (now counts) (now ends) (now run) (now rollback) (now rolling) (now waits)) ⌝ }
+    requires { ⌜ Modest (seenWaits (now starts) (now values) (now slopes) (now counts) (now ends) (now run) (now rollback) (now waits)) ⌝ }
     requires { ⌜ (job < 32) × ((t ≤ 4_000_000_000) × (now circles ≡ circlesOf (waiting (now waits)))) ⌝ }
-    ensures { λ r. ⌜ r ≡ offer (seenWaits (now (starts .entry)) (now (values .entry)) (now (slopes .entry)) (now (counts .entry)) (now (ends .entry)) (now (run .entry)) (now (rollback .entry)) (now (rolling .entry)) (now (waits .entry))) t low job b ⌝ }
+    ensures { λ r. ⌜ r ≡ offer (seenWaits (now (starts .entry)) (now (values .entry)) (now (slopes .entry)) (now (counts .entry)) (now (ends .entry)) (now (run .entry)) (now (rollback .entry)) (now (waits .entry))) t low job b ⌝ }
 {
     if circles[job] == low {
         if rollback[job] == NEVER {
@@ -89,7 +84,6 @@ fn offer<'a>(
             ends,
             run,
             rollback,
-            rolling,
             waits,
             job,
             t,
@@ -108,15 +102,14 @@ pub(crate) fn victim_of<'a>(
     ends: &'a [u32; 32],
     run: &'a [u32; 32],
     rollback: &'a [u32; 32],
-    rolling: &'a [bool; 32],
     waits: &'a [u8; 32],
     circles: &'a [u8; 32],
     low: u8,
     t: u32,
 ) -> Best
-    requires { ⌜ Modest (seenWaits (now starts) (now values) (now slopes) (now counts) (now ends) (now run) (now rollback) (now rolling) (now waits)) ⌝ }
+    requires { ⌜ Modest (seenWaits (now starts) (now values) (now slopes) (now counts) (now ends) (now run) (now rollback) (now waits)) ⌝ }
     requires { ⌜ (t ≤ 4_000_000_000) × (now circles ≡ circlesOf (waiting (now waits))) ⌝ }
-    ensures { λ r. ⌜ r ≡ victimOf (seenWaits (now (starts .entry)) (now (values .entry)) (now (slopes .entry)) (now (counts .entry)) (now (ends .entry)) (now (run .entry)) (now (rollback .entry)) (now (rolling .entry)) (now (waits .entry))) t low ⌝ }
+    ensures { λ r. ⌜ r ≡ victimOf (seenWaits (now (starts .entry)) (now (values .entry)) (now (slopes .entry)) (now (counts .entry)) (now (ends .entry)) (now (run .entry)) (now (rollback .entry)) (now (waits .entry))) t low ⌝ }
 {
     let none = Course { time: 0, gain: 0 };
     let mut b = Best {
@@ -134,7 +127,6 @@ pub(crate) fn victim_of<'a>(
             ends,
             run,
             rollback,
-            rolling,
             waits,
             circles,
             low,

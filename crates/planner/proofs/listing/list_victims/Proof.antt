@@ -11,10 +11,10 @@ use Rattle.planner.proofs.listing.list_victims.Statement.{statement}
 use Rattle.planner.proofs.listing.list_victims.Tie as tie
 
 abbrev Inv-loop : tie.InvT-loop
-Inv-loop starts values slopes counts ends run rollback rolling waits circles t v₀ job₀ v job = (job ≤ 32) × (v ≡ listedTo (seenWaits starts values slopes counts ends run rollback rolling waits) t job)
+Inv-loop starts values slopes counts ends run rollback waits circles t v₀ job₀ v job = (job ≤ 32) × (v ≡ listedTo (seenWaits starts values slopes counts ends run rollback waits) t job)
 
 abbrev μ-loop : tie.MeasureT-loop
-μ-loop starts values slopes counts ends run rollback rolling waits circles t v₀ job₀ v job = 32 - job
+μ-loop starts values slopes counts ends run rollback waits circles t v₀ job₀ v job = 32 - job
 
 loop-holds : tie.Need-loop-holds Inv-loop μ-loop
 loop-holds c = (omega arith, listed-begin _ _)

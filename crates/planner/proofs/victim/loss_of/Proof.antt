@@ -11,13 +11,6 @@ use Rattle.gus.specs.Victims.{lossOf}
 use Rattle.planner.proofs.victim.loss_of.Statement.{statement}
 use Rattle.planner.proofs.victim.loss_of.Tie as tie
 
-element-copy-out-if1 : tie.Need-element-copy-out-if1
-element-copy-out-if1 c = search needs
-
-returns : tie.Need-returns
-unfolding lossOf
-returns c = rw (c .if1 .taken)
-
 mul-time : tie.Need-mul-time
 mul-time c = search needs
 
@@ -25,34 +18,31 @@ element-copy-out-time : tie.Need-element-copy-out-time
 element-copy-out-time c = search needs
 
 add-worth-of : tie.Need-add-worth-of
-add-worth-of c = let s = c .before .before .before in omega (arith, s .pre .0 .run (s .args .job))
+add-worth-of c = let s = c .before in omega (arith, s .pre .0 .run (s .args .job))
 
 worth-of-requires : tie.Need-worth-of-requires
 worth-of-requires c κs = search needs
 
 fits : (c : tie.After-worth-of) → SFits w32 (c .worth-of .result)
 fits c =
-    let s = c .before .before .before .before in
+    let s = c .before .before in
     let most : natAbs (c .worth-of .result) ≤ 1000000 = rw (c .worth-of .ensures) (s .pre .0 .worth (s .args .job) _) in
     fits-abs _ (omega arith)
 
 cast-gain : tie.Need-cast-gain
 cast-gain c = rw (toZ-ofZ {w = w64} {z = c .worth-of .result} (search needs)) (fits c)
 
-returns-2 : tie.Need-returns-2
+returns : tie.Need-returns
 unfolding lossOf
-returns-2 c =
-    rw (c .before .before .if1 .left, toZ-ofZ {w = w64} {z = c .worth-of .result} (search needs), toZ-ofZ (fits c), c .worth-of .ensures)
+returns c = rw (toZ-ofZ {w = w64} {z = c .worth-of .result} (search needs), toZ-ofZ (fits c), c .worth-of .ensures)
 
 pub loss-of-spec : {M : Type 1} → statement M
 loss-of-spec =
     tie.close
     (tie.spec
-    element-copy-out-if1
-    returns
     mul-time
     element-copy-out-time
     add-worth-of
     worth-of-requires
     cast-gain
-    returns-2)
+    returns)
