@@ -1,9 +1,10 @@
 #!/usr/bin/env bash
-# The gate's part of this folder: the corpus must be what the second planner
-# says, and a fixed row of random books must bring no difference between the two
-# planners. Every line of output begins with "beside: ", and a failure shows in
-# the exit status. It can't be the gate's last command, since the gate's last
-# line is rt's own, which .ci/run keeps and prints at its end.
+# The gate's part of this folder: the second planner must pass its own tests, the
+# corpus must be what it says, and a fixed row of random books must bring no
+# difference between the two planners. Every line of output begins with
+# "beside: ", and a failure shows in the exit status. It can't be the gate's last
+# command, since the gate's last line is rt's own, which .ci/run keeps and prints
+# at its end.
 set -euo pipefail
 cd "$(dirname "$0")/.."
 
@@ -42,6 +43,7 @@ second_first_lines() {
     if [ "$machine" = x86_64 ]; then
         rt staticlib ilhuepatl
     fi
+    cargo test --quiet --release --offline --manifest-path second/Cargo.toml
     cargo build --release --offline --manifest-path beside/Cargo.toml
     run beside-corpus -- --check
     first_lines >"$lines/proved"

@@ -84,8 +84,12 @@ fn victim(now: i64, jobs: &[Job], circle: &[usize]) -> Option<usize> {
 }
 
 /// LossPUD of V.1 as a fraction: worth at now + run time left, divided by run
-/// time left; for a job in rollback 0. (MODE refuses a rollback job with a
-/// request, so none is ever on a circle; the line stands because 01 has it.)
+/// time left; for a job in rollback 0.
+///
+/// R-8 took this last clause out of the proved planner, since no member of a
+/// circle is in rollback: MODE refuses a job in rollback with a request, and a
+/// victim loses its own. Here 01's line stays, so that the comparison of the
+/// two planners bears witness that no answer changed.
 fn loss(now: i64, job: &Job) -> (i64, i64) {
     if job.in_rollback {
         (0, 1)
@@ -114,7 +118,7 @@ pub fn settle(book: Book) -> Result<Settled, Refusal> {
 }
 
 /// "It goes into rollback and loses its request."
-fn send_back(jobs: &mut [Job], victims: &[usize]) {
+pub fn send_back(jobs: &mut [Job], victims: &[usize]) {
     for &number in victims {
         jobs[number].in_rollback = true;
         jobs[number].request = None;
