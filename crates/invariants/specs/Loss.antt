@@ -43,7 +43,7 @@ module _ (v : View) (t : ℕ) where
       go true = refl
       go false = refl
 
-  -- so a victim sought in that view is sought as 01 says: a loss is asked for here alone, and nothing else of the view has changed
+  -- so in that view a victim is sought as 01 says; a loss is asked for nowhere else
   pub offer-by-mode : (low i : ℕ) (b : Best)
       → offer (viewByMode v) t low i b
       ≡ elim (eqb (circleOf (v .waits) i) low) [ true ↦ elim (eqb (v .rollback i) never) [ true ↦ b | false ↦ lesser i (lossByMode v t i) b ] | false ↦ b ]
