@@ -20,6 +20,8 @@ use Rattle.cursor.specs.declared.reader.Step.{Step}
 use Rattle.cursor.specs.declared.reader.BookReader.{BookReader}
 use Rattle.cursor.specs.declared.reader.NextField.{NextField}
 use Rattle.cursor.proofs.Both.{both}
+use Rattle.cursor.proofs.field.value_at.Kinds as value-at-kinds
+use Rattle.cursor.proofs.field.value_at.Reads as value-at
 use Rattle.cursor.proofs.field.field.Kinds as field-kinds
 use Rattle.cursor.proofs.field.field.Reads as field
 use Rattle.cursor.proofs.field.rule.Kinds as rule-kinds
@@ -31,6 +33,10 @@ use Rattle.cursor.proofs.reader.step_from.Reads as step-from
 use Rattle.cursor.proofs.reader.open_reader as open-reader
 use Rattle.cursor.proofs.reader.next_field as next-field
 use Rattle.cursor.proofs.reader.place_of as place-of
+
+value-at-only : (κs : Lfts 1) (s : RefT (List ℕ)) (place n r r′ : ℕ) (e e′ : AtExit (endedOf 1 value-at-kinds.ps value-at-kinds.r) κs)
+    → value-at.Post κs (s, (place, (n, tt))) r e → value-at.Post κs (s, (place, (n, tt))) r′ e′ → r ≡ r′
+value-at-only κs s place n r r′ e e′ p q = p .0 ∙ sym (q .0)
 
 field-only : (κs : Lfts 1) (s : RefT (List ℕ)) (r : Reading) (n low high number : ℕ) (o o′ : Reading) (e e′ : AtExit (endedOf 1 field-kinds.ps field-kinds.r) κs)
     → field.Post κs (s, (r, (n, (low, (high, (number, tt)))))) o e → field.Post κs (s, (r, (n, (low, (high, (number, tt)))))) o′ e′ → o ≡ o′

@@ -4,16 +4,20 @@ use mathlib.Core.Bool.{Bool, cond}
 use mathlib.Core.List.{List}
 use mathlib.Core.Path.{_≡_}
 use lib.ListN.{length, getD}
-use lib.Dec.{ltb, eqb}
+use lib.Dec.{ltb, leb, eqb}
 use Rattle.cursor.specs.declared.Reading.{Reading}
 use Rattle.cursor.specs.Refusal.{CUT}
 
--- the number of the n bytes at a place, the most significant first; n is 1, 2 or 4
+-- the number of the n bytes at a place, the most significant first; n is 1, 2 or 4, and any other n gives 0
 unfoldable pub valueAt : List ℕ → ℕ → ℕ → ℕ
 valueAt s place n =
     cond (eqb n 1) (getD s place 0)
     (cond (eqb n 2) (getD s place 0 * 256 + getD s (place + 1) 0)
     (cond (eqb n 4) (getD s place 0 * 16777216 + getD s (place + 1) 0 * 65536 + getD s (place + 2) 0 * 256 + getD s (place + 3) 0) 0))
+
+-- the same where all n bytes are there; 0 where the string ends before
+unfoldable pub valueIn : List ℕ → ℕ → ℕ → ℕ
+valueIn s place n = cond (leb (place + n) (length s)) (valueAt s place n) 0
 
 -- after a refusal nothing is read
 abbrev pub refusedAt : ℕ → ℕ → Reading

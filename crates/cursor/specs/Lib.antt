@@ -1,5 +1,6 @@
 pub mod Refusal
 pub mod Field
+pub mod Value
 pub mod Outcome
 pub mod Step
 pub mod Header

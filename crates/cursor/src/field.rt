@@ -1,8 +1,7 @@
 // One field, and one further rule. Once refused, every later step hands the refusal on, so that no caller branches.
 ghost use mathlib.Core.Path.{_≡_};
-ghost use Prim.Native.Nat.{_+_, _<_, _≤_};
-ghost use lib.ListN.{length};
-ghost use Rattle.cursor.specs.Field.{valueAt, refusedAt, fieldOf, ruleOf, Is};
+ghost use Prim.Native.Nat.{_<_, _^_};
+ghost use Rattle.cursor.specs.Field.{valueIn, refusedAt, fieldOf, ruleOf, Is};
 use crate::Reading;
 
 pub const ROOM: u8 = 1;
@@ -29,27 +28,29 @@ fn wide(x: u8) -> usize
     x as usize
 }
 
-// the number of n bytes, of which there are 1, 2 or 4
-fn value_at(s: &[u8], place: usize, n: usize) -> usize
-    requires { ⌜ place + n ≤ length (now s) ⌝ }
-    ensures { λ r. ⌜ r ≡ valueAt (now (s .entry)) place n ⌝ }
+// the number of n bytes, n being 1, 2 or 4, and 0 for any other n; 0 too where the bytes end before
+pub fn value_at(s: &[u8], place: usize, n: usize) -> usize
+    ensures { λ r. ⌜ (r ≡ valueIn (now (s .entry)) place n) × (r < 256 ^ n) ⌝ }
 {
-    if n == 1 {
-        wide(s[place])
-    } else {
-        if n == 2 {
-            wide(s[place]) * 256 + wide(s[place + 1])
-        } else {
-            if n == 4 {
-                wide(s[place]) * 16777216
-                    + wide(s[place + 1]) * 65536
-                    + wide(s[place + 2]) * 256
-                    + wide(s[place + 3])
-            } else {
-                0
-            }
-        }
+    if s.len() < n {
+        return 0;
     }
+    if s.len() - n < place {
+        return 0;
+    }
+    if n == 1 {
+        return wide(s[place]);
+    }
+    if n == 2 {
+        return wide(s[place]) * 256 + wide(s[place + 1]);
+    }
+    if n == 4 {
+        return wide(s[place]) * 16777216
+            + wide(s[place + 1]) * 65536
+            + wide(s[place + 2]) * 256
+            + wide(s[place + 3]);
+    }
+    0
 }
 
 pub(crate) fn refused(number: u8, place: usize) -> Reading

@@ -3,18 +3,18 @@ use mathlib.Core.Path.{sym, _∙_}
 use contract.Lifetimes.{Lfts}
 use Rattle.laws.specs.Only.{Only}
 use Rattle.curve.proofs.line_at.Reads as line-at
-use Rattle.curve.proofs.worth.Reads as worth
-use Rattle.curve.proofs.worth_of.Reads as worth-of
+use Rattle.curve.proofs.fields.piece_from.Reads as piece-from
+use Rattle.curve.proofs.question.worth_at.Reads as worth-at
 use Rattle.curve.proofs.denser.Reads as denser
 
 line-at-only : Only (line-at.Post tt)
 line-at-only a r r′ s s′ p q = p ∙ sym q
 
-worth-only : Only (worth.Post tt)
-worth-only a r r′ s s′ p q = p ∙ sym q
+piece-from-only : Only (piece-from.Post tt)
+piece-from-only a r r′ s s′ p q = p ∙ sym q
 
-worth-of-only : (lifetimes : Lfts 1) → Only (worth-of.Post lifetimes)
-worth-of-only lifetimes a r r′ s s′ p q = p ∙ sym q
+worth-at-only : (lifetimes : Lfts 1) → Only (worth-at.Post lifetimes)
+worth-at-only lifetimes a r r′ s s′ p q = p ∙ sym q
 
 denser-only : Only (denser.Post tt)
 denser-only a r r′ s s′ p q = p ∙ sym q

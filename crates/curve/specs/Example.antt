@@ -1,13 +1,17 @@
 -- A curve worked out: from 10 on it falls from 100 by 2 a millisecond, from 20 on it rises from 7 by 1, and it ends at 30.
 use mathlib.Core.Path.{_≡_, refl}
-use mathlib.Core.List.{[], _∷_, _++_, map}
+use mathlib.Core.List.{List, [], _∷_, map}
 use Prim.Native.Nat.{ℕ, zero, suc, _<_}
 use native.Mathlib.Omega.{arith}
 use lib.IntN.{pos, negsuc}
-use lib.ListN.{replicate}
+use lib.ListN.{take, replicate}
+use Rattle.laws.specs.Count.{upto}
+use Rattle.laws.specs.Listed.{listed}
+use Rattle.cursor.specs.Field.{valueAt}
 use Rattle.curve.specs.declared.Curve.{Curve}
 use Rattle.curve.specs.Worth.{noPiece, lineAt, worthIn, worthAt}
-use Rattle.curve.specs.Flat.{piecesFrom, curveIn}
+use Rattle.curve.specs.Layout.{signedOf, curveAt}
+use Rattle.curve.specs.Question.{standsAt, worthFrom}
 use Rattle.curve.specs.Bound.{InRange, pieceOf, endOf, Allowed}
 
 abbrev sample : Curve
@@ -47,16 +51,23 @@ sample-allowed = record {
     at-end (suc zero) l = omega arith
     at-end (suc (suc i)) l = absurd (omega arith)
 
--- the same curve as that of job 1 in flat lists
-abbrev flat : ℕ → Curve
-flat =
-    curveIn
-    (replicate 8 0 ++ (10 ∷ 20 ∷ []))
-    (replicate 8 (pos 0) ++ (pos 100 ∷ pos 7 ∷ []))
-    (replicate 8 (pos 0) ++ (negsuc 1 ∷ pos 1 ∷ []))
-    (0 ∷ 2 ∷ [])
-    (0 ∷ 30 ∷ [])
+-- the same curve in bytes, after two bytes that are not its own
+abbrev bytes : List ℕ
+bytes =
+    7 ∷ 7 ∷ 2
+    ∷ 0 ∷ 0 ∷ 0 ∷ 10 ∷ 0 ∷ 0 ∷ 0 ∷ 100 ∷ 255 ∷ 254
+    ∷ 0 ∷ 0 ∷ 0 ∷ 20 ∷ 0 ∷ 0 ∷ 0 ∷ 7 ∷ 0 ∷ 1
+    ∷ 0 ∷ 0 ∷ 0 ∷ 30 ∷ []
 
-flat-is : flat 1 ≡ sample
-unfolding curveIn piecesFrom
-flat-is = refl
+stands-there : curveAt bytes 2 ≡ sample
+unfolding listed upto valueAt signedOf
+stands-there = refl
+
+-- asked where it stands, a byte too early (a count of 7, which the bytes are too few for), past the end; and cut by a byte
+asked : map (λ p. worthFrom bytes p 13) (2 ∷ 1 ∷ 27 ∷ []) ≡ pos 94 ∷ pos 0 ∷ pos 0 ∷ []
+unfolding worthFrom standsAt worthAt worthIn listed upto valueAt signedOf
+asked = refl
+
+cut : worthFrom (take 26 bytes) 2 13 ≡ pos 0
+unfolding worthFrom standsAt worthAt worthIn listed upto valueAt signedOf
+cut = refl

@@ -1,6 +1,8 @@
 pub mod Worth
 pub mod Walk
-pub mod Flat
+pub mod Layout
+pub mod Twos
+pub mod Question
 pub mod Density
 pub mod Bound
 pub mod Example

@@ -5,6 +5,7 @@ pub mod Count
 pub mod Fill
 pub mod Stores
 pub mod Search
+pub mod Listed
 pub mod Walk
 pub mod Circle
 pub mod Rewire

@@ -1,8 +1,11 @@
 -- `cursor::field::field` meets its contract.
 use Prim.Native.Nat.{zero-le}
+use native.Mathlib.Omega.{arith}
+use mathlib.Core.Path.{_≡_, _∙_}
 use borrow.Author.Tests.{lt-ltb, le-ltb}
 use borrow.Author.Needs.{needs}
-use Rattle.cursor.specs.Field.{fieldOf, readAt, judged}
+use Rattle.cursor.specs.Field.{valueAt, fieldOf, readAt, judged}
+use Rattle.cursor.specs.Value.{value-there}
 use Rattle.cursor.proofs.field.field.Statement.{statement}
 use Rattle.cursor.proofs.field.field.Tie as tie
 
@@ -33,26 +36,30 @@ returns-3 c = record { is = simp (le-ltb _ _ (c .before .before .before .if1 .le
 value-at-requires : tie.Need-value-at-requires
 value-at-requires c κs = search needs
 
+-- the bytes are there
+value : (c : tie.After-value-at) → let a = c .before .before .before .before .before .before .args in c .value-at .result ≡ valueAt (a .s .now) (a .r .next) (a .n)
+value c = let a = c .before .before .before .before .before .before .args in c .value-at .ensures .0 ∙ value-there (a .s .now) (a .r .next) (a .n) (omega arith)
+
 refused-requires-4 : tie.Need-refused-requires-4
 refused-requires-4 c κs = search needs
 
 returns-4 : tie.Need-returns-4
 unfolding fieldOf readAt judged
-returns-4 c = record { is = simp (le-ltb _ _ (c .before .before .before .before .before .if1 .left), le-ltb _ _ (c .before .before .before .before .if2 .left), le-ltb _ _ (c .before .before .before .if3 .left), ← c .before .before .value-at .ensures, lt-ltb _ _ (c .before .if4 .taken)) (c .refused4 .ensures); small = rw (c .refused4 .ensures) zero-le }
+returns-4 c = record { is = simp (le-ltb _ _ (c .before .before .before .before .before .if1 .left), le-ltb _ _ (c .before .before .before .before .if2 .left), le-ltb _ _ (c .before .before .before .if3 .left), ← value (c .before .before), lt-ltb _ _ (c .before .if4 .taken)) (c .refused4 .ensures); small = rw (c .refused4 .ensures) zero-le }
 
 refused-requires-5 : tie.Need-refused-requires-5
 refused-requires-5 c κs = search needs
 
 returns-5 : tie.Need-returns-5
 unfolding fieldOf readAt judged
-returns-5 c = record { is = simp (le-ltb _ _ (c .before .before .before .before .before .before .if1 .left), le-ltb _ _ (c .before .before .before .before .before .if2 .left), le-ltb _ _ (c .before .before .before .before .if3 .left), ← c .before .before .before .value-at .ensures, le-ltb _ _ (c .before .before .if4 .left), lt-ltb _ _ (c .before .if5 .taken)) (c .refused5 .ensures); small = rw (c .refused5 .ensures) zero-le }
+returns-5 c = record { is = simp (le-ltb _ _ (c .before .before .before .before .before .before .if1 .left), le-ltb _ _ (c .before .before .before .before .before .if2 .left), le-ltb _ _ (c .before .before .before .before .if3 .left), ← value (c .before .before .before), le-ltb _ _ (c .before .before .if4 .left), lt-ltb _ _ (c .before .if5 .taken)) (c .refused5 .ensures); small = rw (c .refused5 .ensures) zero-le }
 
 add-t10 : tie.Need-add-t10
 add-t10 c = search needs
 
 returns-6 : tie.Need-returns-6
 unfolding fieldOf readAt judged
-returns-6 c = record { is = simp (le-ltb _ _ (c .before .before .before .before .before .if1 .left), le-ltb _ _ (c .before .before .before .before .if2 .left), le-ltb _ _ (c .before .before .before .if3 .left), ← c .before .before .value-at .ensures, le-ltb _ _ (c .before .if4 .left), le-ltb _ _ (c .if5 .left)); small = c .if5 .left }
+returns-6 c = record { is = simp (le-ltb _ _ (c .before .before .before .before .before .if1 .left), le-ltb _ _ (c .before .before .before .before .if2 .left), le-ltb _ _ (c .before .before .before .if3 .left), ← value (c .before .before), le-ltb _ _ (c .before .if4 .left), le-ltb _ _ (c .if5 .left)); small = c .if5 .left }
 
 pub field-spec : {M : Type 1} → statement M
 field-spec =
