@@ -9,18 +9,20 @@ use lib.IntN.{natAbs}
 use borrow.Author.Tests.{lt-ltb, le-ltb, le-leb, leb-true}
 use Rattle.laws.specs.Count.{upto, upto-each}
 use Rattle.laws.specs.Search.{lt-or-le}
+use Rattle.laws.specs.Listed.{listed, listed-none, listed-next, listed-at, length-listed}
 use Rattle.curve.specs.declared.Piece.{Piece}
 use Rattle.curve.specs.Worth.{noPiece, lineAt}
+use Rattle.curve.specs.Layout.{signedOf, piecePlace, pieceAt, curveAt, curveEnd}
 use Rattle.curve.specs.Bound.{Allowed, pieceOf}
 use Rattle.cursor.specs.declared.Reading.{Reading}
 use Rattle.book.specs.declared.pieces.PieceList.{PieceList}
 use Rattle.cursor.specs.Refusal.{RANGE}
 use Rattle.cursor.specs.Field.{valueAt, gotAt}
-use Rattle.book.specs.Rules.{signedOf, lineOk}
+use Rattle.book.specs.Rules.{lineOk}
 use Rattle.book.specs.Format.{startRead, signedRead, pieceRead, pieceNext, piecesRead, endRead, curveRead}
 use Rattle.accepted.specs.Fields.{Onward, Passes, onward, field-got, field-back, ruled-got, ruled-back}
 use Rattle.accepted.specs.Sticks.{unrefused-before, signed-sticks, piece-next-sticks, end-sticks, loop-sticks, loop-sticks-all}
-use Rattle.accepted.specs.Layout.{Bytes, two-bytes, four-bytes, listed, listed-none, listed-next, listed-at, length-listed, piecePlace, pieceAt, curveAt}
+use Rattle.accepted.specs.Layout.{Bytes, two-bytes, four-bytes}
 use Rattle.accepted.specs.Rules.{AllowedCurve}
 use Rattle.accepted.specs.SignedFields.{signed-got, signed-back}
 
@@ -164,7 +166,7 @@ module _ (s : List ℕ) (r : Reading) (p : ℕ) (o : Onward r p) where
 
 -- ---- and its fields pass exactly when the curve is allowed
 pub record CurveKept (s : List ℕ) (p : ℕ) : Type 0 where
-  pub fits : piecePlace p (valueAt s p 1) + 4 ≤ length s
+  pub fits : curveEnd s p ≤ length s
   pub good : AllowedCurve (curveAt s p)
 
 module _ (s : List ℕ) (p : ℕ) where

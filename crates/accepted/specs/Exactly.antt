@@ -10,6 +10,7 @@ use lib.Dec.{ltb, eqb}
 use borrow.Author.Tests.{lt-ltb, eq-eqb, eqb-true}
 use Rattle.laws.specs.Count.{upto, upto-each}
 use Rattle.laws.specs.Search.{lt-or-le}
+use Rattle.laws.specs.Listed.{listed, listed-none, listed-next}
 use Rattle.cursor.specs.declared.Reading.{Reading}
 use Rattle.book.specs.declared.Span.{Span}
 use Rattle.book.specs.declared.Book.{Book}
@@ -20,7 +21,7 @@ use Rattle.cursor.specs.Header.{headerOf}
 use Rattle.book.specs.Format.{noRecord, noSpan, recordRead, recordNext, noRecords, recordsRead, tailRead, acceptedBook, refusedBook, bookOf}
 use Rattle.accepted.specs.Fields.{Onward, onward, rule-kept, rule-passed}
 use Rattle.accepted.specs.Sticks.{unrefused-before, record-next-sticks, records-sticks, tail-sticks, loop-sticks}
-use Rattle.accepted.specs.Layout.{Bytes, listed, listed-none, listed-next, recordAt, jobsAt, resourcesAt, nowAt, jobPlace}
+use Rattle.accepted.specs.Layout.{Bytes, recordAt, jobsAt, resourcesAt, nowAt, jobPlace}
 use Rattle.accepted.specs.Holders.{Agree, agree-none, agree-job}
 use Rattle.accepted.specs.Kept.{HeaderKept, RecordKept, BookKept, heldOf, holdsOf}
 use Rattle.accepted.specs.Headers.{header-got, header-back}
@@ -88,11 +89,11 @@ pub record BookGot (s : List ℕ) (b : Book) : Type 0 where
   pub agree : Agree (holdsOf s) (heldOf s) (jobsAt s) 0 (b .holders)
 
 module _ (s : List ℕ) (r : Reading) (p : ℕ) (o : Onward r p) where
-  tail-got : p ≡ length s → tailRead s r ≡ r
+  pub tail-got : p ≡ length s → tailRead s r ≡ r
   unfolding tailRead
   tail-got e = rule-kept (eqb (r .next) (length s)) TAIL (r .next) r (o .unrefused) (eq-eqb _ _ (o .here ∙ e))
 
-  tail-back : tailRead s r .number ≡ 0 → p ≡ length s
+  pub tail-back : tailRead s r .number ≡ 0 → p ≡ length s
   unfolding tailRead
   tail-back h = sym (o .here) ∙ eqb-true _ _ (rule-passed (eqb (r .next) (length s)) TAIL (r .next) r (omega arith) h .holds)
 

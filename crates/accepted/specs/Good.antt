@@ -8,13 +8,14 @@ use mathlib.Core.List.{List}
 use lib.IntN.{natAbs}
 use lib.ListN.{length, getD}
 use Rattle.laws.specs.Search.{lt-or-le}
+use Rattle.laws.specs.Listed.{listed-at, listed-past, length-listed}
 use Rattle.curve.specs.Worth.{worthAt}
 use Rattle.curve.specs.Bound.{worth-within}
 use Rattle.book.specs.declared.Entry.{Entry}
 use Rattle.book.specs.declared.Record.{Record}
 use Rattle.book.specs.declared.Book.{Book}
 use Rattle.book.specs.Format.{noEntry, noRecord, bookOf}
-use Rattle.accepted.specs.Layout.{listed-at, listed-past, length-listed, recordAt, heldAt, jobsAt, resourcesAt, jobPlace}
+use Rattle.accepted.specs.Layout.{recordAt, heldAt, jobsAt, resourcesAt, jobPlace}
 use Rattle.accepted.specs.Rules.{GoodRecord}
 use Rattle.accepted.specs.Holders.{Before, earlier, beside, Named, getD-any}
 use Rattle.accepted.specs.Kept.{BookKept, heldOf, holdsOf}
@@ -58,7 +59,7 @@ pub worth-small : {resources : ℕ} {x : Record} → GoodRecord resources x → 
 worth-small g t = worth-within (g .curve .allowed) t
 
 module _ (s : List ℕ) (b : Book) (k : BookKept s) (g : BookGot s b) where
-  record-is : (i : ℕ) → i < jobsAt s → recordOf b i ≡ recordAt s (jobPlace s i)
+  pub record-is : (i : ℕ) → i < jobsAt s → recordOf b i ≡ recordAt s (jobPlace s i)
   record-is i h = rw (g .records) (listed-at 32 noRecord (λ j. recordAt s (jobPlace s j)) (jobsAt s) i (k .header .jobs) h)
 
   entry-is : (i m : ℕ) → i < jobsAt s → m < holdsOf s i → entryOf b i m ≡ heldAt s (jobPlace s i) m

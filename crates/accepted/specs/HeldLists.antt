@@ -8,6 +8,7 @@ use lib.ListN.{length, getD, replicate}
 use lib.Dec.{ltb, eqb}
 use borrow.Author.Tests.{lt-ltb, eq-eqb, ltb-true, eqb-true}
 use Rattle.laws.specs.Count.{upto, upto-each}
+use Rattle.laws.specs.Listed.{listed, listed-none, listed-next}
 use Rattle.cursor.specs.declared.Reading.{Reading}
 use Rattle.book.specs.declared.held.HeldList.{HeldList}
 use Rattle.cursor.specs.Refusal.{RANGE, TWICE}
@@ -16,7 +17,7 @@ use Rattle.book.specs.Rules.{leastRollback}
 use Rattle.book.specs.Format.{noEntry, unheldRead, heldResource, entryRead, entryNext, heldRead}
 use Rattle.accepted.specs.Fields.{Onward, Passes, onward, field-got, field-back, ruledOf, ruled-got, ruled-back, rule-kept, rule-passed}
 use Rattle.accepted.specs.Sticks.{unrefused-before, field-sticks, entry-next-sticks, loop-sticks, loop-sticks-all}
-use Rattle.accepted.specs.Layout.{listed, listed-none, listed-next, entryPlace, entryAt, heldAt, jobPlace}
+use Rattle.accepted.specs.Layout.{entryPlace, entryAt, heldAt, jobPlace}
 use Rattle.accepted.specs.Rules.{GoodEntry}
 use Rattle.accepted.specs.Holders.{Before, Agree, getD-any, free-once, once-free, agree-entry}
 use Rattle.accepted.specs.Kept.{heldOf, holdsOf}

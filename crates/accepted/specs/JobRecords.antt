@@ -7,6 +7,8 @@ use mathlib.Core.List.{List}
 use lib.ListN.{length, getD}
 use lib.Dec.{eqb}
 use borrow.Author.Tests.{eq-eqb, eqb-true, eqb-false}
+use Rattle.laws.specs.Listed.{listed-at, length-listed}
+use Rattle.curve.specs.Layout.{piecePlace, curveAt}
 use Rattle.job.specs.declared.Request.{Request}
 use Rattle.cursor.specs.declared.Reading.{Reading}
 use Rattle.book.specs.declared.reader.RecordRead.{RecordRead}
@@ -16,7 +18,7 @@ use Rattle.book.specs.Rules.{modeOk}
 use Rattle.book.specs.Format.{noEntry, rollbackRead, requestRead, heldRead, curveRead, recordRead}
 use Rattle.accepted.specs.Fields.{Onward, Passes, onward, field-got, field-back, rule-kept, rule-passed}
 use Rattle.accepted.specs.Sticks.{unrefused-before, field-sticks, rollback-sticks, request-sticks, held-sticks, curve-sticks}
-use Rattle.accepted.specs.Layout.{Bytes, listed-at, length-listed, piecePlace, requestAt, curveAt, curvePlace, recordAt, recordEnd, heldAt, jobPlace}
+use Rattle.accepted.specs.Layout.{Bytes, requestAt, curvePlace, recordAt, recordEnd, heldAt, jobPlace}
 use Rattle.accepted.specs.Rules.{RollbackTime, rollback-most, NoRequest, GoodRequest, nothing, asks}
 use Rattle.accepted.specs.Holders.{Agree}
 use Rattle.accepted.specs.Kept.{RecordKept, heldOf, holdsOf}

@@ -29,14 +29,14 @@ pub record Placed (s : List ℕ) (number place : ℕ) : Type 0 where
   pub inside : 0 < number → (number ≡ CUT → ⊥) → (number ≡ SIZE → ⊥) → place < length s
 
 -- a reading that goes on is in the book, and one that is refused has its place there
-record Inside (s : List ℕ) (r : Reading) : Type 0 where
-  going : r .number ≡ 0 → r .next ≤ length s
-  refused : 0 < r .number → Placed s (r .number) (r .place)
+pub record Inside (s : List ℕ) (r : Reading) : Type 0 where
+  pub going : r .number ≡ 0 → r .next ≤ length s
+  pub refused : 0 < r .number → Placed s (r .number) (r .place)
 
 inside-of : {s : List ℕ} {r o : Reading} → r ≡ o → Inside s o → Inside s r
 inside-of e k = rw e k
 
-got-inside : (s : List ℕ) (place n v : ℕ) → place + n ≤ length s → Inside s (gotAt place n v)
+pub got-inside : (s : List ℕ) (place n v : ℕ) → place + n ≤ length s → Inside s (gotAt place n v)
 got-inside s place n v h = record { going = λ e. h; refused = λ l. absurd (omega arith) }
 
 refused-inside : (s : List ℕ) (number place : ℕ) → 0 < number → Placed s number place → Inside s (refusedAt number place)
@@ -141,7 +141,7 @@ pieces-inside : (s : List ℕ) (r : Reading) → Inside s r → Inside s (pieces
 unfolding piecesRead
 pieces-inside s r k = loop-inside s (λ (x : PieceList). x .reading) (pieceNext s) (piece-inside s) _ _ (field-inside s 1 1 8 RANGE (omega arith) (omega arith) r k)
 
-curve-inside : (s : List ℕ) (r : Reading) → Inside s r → Inside s (curveRead s r .reading)
+pub curve-inside : (s : List ℕ) (r : Reading) → Inside s r → Inside s (curveRead s r .reading)
 unfolding curveRead endRead
 curve-inside s r k =
     let c = piecesRead s r in
@@ -181,7 +181,7 @@ records-inside : (s : List ℕ) (jobs resources : ℕ) (r : Reading) → Inside 
 unfolding recordsRead noRecords
 records-inside s jobs resources r k = loop-inside s (λ (x : Records). x .reading) (recordNext s resources) (record-inside s resources) jobs _ k
 
-tail-inside : (s : List ℕ) (r : Reading) → Inside s r → Inside s (tailRead s r)
+pub tail-inside : (s : List ℕ) (r : Reading) → Inside s r → Inside s (tailRead s r)
 unfolding tailRead
 tail-inside s r k =
     rule-inside s (eqb (r .next) (length s)) TAIL (r .next) (omega arith) r k

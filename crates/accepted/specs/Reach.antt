@@ -14,11 +14,14 @@ use Rattle.book.specs.declared.Book.{Book}
 use Rattle.book.specs.declared.held.HeldList.{HeldList}
 use Rattle.book.specs.declared.pieces.PieceList.{PieceList}
 use Rattle.book.specs.declared.reader.Records.{Records}
+use Rattle.book.specs.declared.worth.CurveWorth.{CurveWorth}
 use Rattle.cursor.specs.Refusal.{SIZE, VERSION, COUNT, RANGE, TWICE, MODE, TAIL}
 use Rattle.cursor.specs.Field.{valueAt, judged, readAt, refusedAt, gotAt, fieldOf, ruleOf}
 use Rattle.book.specs.Rules.{rollbackOk, requestOk, aroundOk, lineOk}
 use Rattle.cursor.specs.Header.{headerOf}
+use Rattle.cursor.specs.Outcome.{by-test}
 use Rattle.book.specs.Format.{rollbackRead, requestedResource, requestedRollback, requestRead, unheldRead, heldResource, entryRead, entryNext, heldRead, startRead, signedRead, pieceRead, pieceNext, piecesRead, endRead, curveRead, recordRead, recordNext, recordsRead, noRecords, tailRead, bookOf, refusedBook, acceptedBook}
+use Rattle.book.specs.CurveWorth.{aloneRead, curveWorth}
 use Rattle.accepted.specs.Fields.{ruledOf}
 
 -- a reading within the first m bytes
@@ -197,3 +200,12 @@ refusal-near s =
     by : (b : Bool) {x y : Book} → Near x → Near y → Near (cond b x y)
     by true p q = p
     by false p q = q
+
+-- and of a curve that stands alone: it has at most 85 bytes
+pub worth-near : (s : List ℕ) (t : ℕ) → curveWorth s t .place ≤ 85
+unfolding curveWorth tailRead
+worth-near s t =
+    let r : Reading = gotAt 0 0 0 in
+    let read = curve-reaches s {m = 0} {r = r} (record { number = omega arith; place = omega arith; next = omega arith }) in
+    let end = rule-reaches (eqb (curveRead s r .reading .next) (length s)) TAIL (curveRead s r .reading .next) (omega arith) (read .next) read in
+    by-test (ltb 0 (aloneRead s .number)) _ _ (λ (x : CurveWorth). x .place ≤ 85) (λ e. omega (arith, end .place)) (λ e. omega arith)

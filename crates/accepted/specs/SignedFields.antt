@@ -12,7 +12,8 @@ use Rattle.laws.specs.Signed.{abs-is, up-sub, dn-sub}
 use Rattle.cursor.specs.declared.Reading.{Reading}
 use Rattle.cursor.specs.Refusal.{RANGE}
 use Rattle.cursor.specs.Field.{valueAt, gotAt}
-use Rattle.book.specs.Rules.{signedOf, aroundOk}
+use Rattle.curve.specs.Layout.{signedOf}
+use Rattle.book.specs.Rules.{aroundOk}
 use Rattle.book.specs.Format.{signedRead}
 use Rattle.accepted.specs.Fields.{Onward, ruled-got, ruled-back}
 

@@ -7,7 +7,8 @@ use lib.ListN.{length, getD}
 use Rattle.book.specs.declared.Span.{Span}
 use Rattle.book.specs.declared.Book.{Book}
 use Rattle.book.specs.Format.{noSpan, bookOf}
-use Rattle.accepted.specs.Layout.{listed-at, jobsAt, jobPlace}
+use Rattle.laws.specs.Listed.{listed-at}
+use Rattle.accepted.specs.Layout.{jobsAt, jobPlace}
 use Rattle.accepted.specs.Kept.{BookKept}
 use Rattle.accepted.specs.Exactly.{BookGot, spanAt, book-back}
 
@@ -23,7 +24,7 @@ pub record Laid (s : List ℕ) (b : Book) : Type 0 where
   pub none : b .jobs ≡ 0 → length s ≡ 9
 
 module _ (s : List ℕ) (b : Book) (k : BookKept s) (g : BookGot s b) where
-  span-is : (i : ℕ) → i < b .jobs → spanOf b i ≡ spanAt s i
+  pub span-is : (i : ℕ) → i < b .jobs → spanOf b i ≡ spanAt s i
   span-is i h = rw (g .spans) (listed-at 32 noSpan (spanAt s) (jobsAt s) i (k .header .jobs) (rw (g .jobs) at h))
 
   laid : Laid s b

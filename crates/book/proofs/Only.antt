@@ -18,10 +18,13 @@ use denote.Triple.Clauses.{AtExit}
 use Rattle.book.specs.declared.Book.{Book}
 use Rattle.book.specs.declared.question.Found.{Found}
 use Rattle.book.specs.declared.question.RecordAnswer.{RecordAnswer}
+use Rattle.book.specs.declared.worth.CurveWorth.{CurveWorth}
 use Rattle.book.specs.Question.{IsRecord, Answers}
 use Rattle.cursor.proofs.Both.{both}
 use Rattle.book.proofs.reader.read_book.Kinds as read-book-kinds
 use Rattle.book.proofs.reader.read_book.Reads as read-book
+use Rattle.book.proofs.worth.worth_of_curve.Kinds as worth-of-curve-kinds
+use Rattle.book.proofs.worth.worth_of_curve.Reads as worth-of-curve
 use Rattle.book.proofs.question.find_record.Kinds as find-record-kinds
 use Rattle.book.proofs.question.find_record.Reads as find-record
 use Rattle.book.proofs.question.RecordAnswer.Laws.{lowered}
@@ -58,3 +61,7 @@ module _ {M : Type 1} (𝓤 : URA M) (H : Heap 𝓤) (A : Atoms 𝓤) (mem : Mem
 
 find-record-only : (κs : Lfts 1) (s : RefT (List ℕ)) (job : ℕ) (r r′ : Found) (e e′ : AtExit (endedOf 1 find-record-kinds.ps find-record-kinds.r) κs) → find-record.Post κs (s, (job, tt)) r e → find-record.Post κs (s, (job, tt)) r′ e′ → r ≡ r′
 find-record-only κs s job r r′ e e′ p q = p ∙ sym q
+
+worth-of-curve-only : (κs : Lfts 1) (s : RefT (List ℕ)) (t : ℕ) (r r′ : CurveWorth) (e e′ : AtExit (endedOf 1 worth-of-curve-kinds.ps worth-of-curve-kinds.r) κs)
+    → worth-of-curve.Post κs (s, (t, tt)) r e → worth-of-curve.Post κs (s, (t, tt)) r′ e′ → r ≡ r′
+worth-of-curve-only κs s t r r′ e e′ p q = p ∙ sym q

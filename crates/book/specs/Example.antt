@@ -9,7 +9,8 @@ use Rattle.curve.specs.Worth.{noPiece}
 use Rattle.book.specs.declared.Record.{Record}
 use Rattle.cursor.specs.Refusal.{SIZE, VERSION, COUNT, CUT, RANGE, TWICE, MODE, TAIL}
 use Rattle.cursor.specs.Field.{valueAt, judged, readAt, fieldOf, ruleOf}
-use Rattle.book.specs.Rules.{rollbackOk, requestOk, ifRequested, leastRollback, modeOk, signedOf, aroundOk, lineOk}
+use Rattle.curve.specs.Layout.{signedOf}
+use Rattle.book.specs.Rules.{rollbackOk, requestOk, ifRequested, leastRollback, modeOk, aroundOk, lineOk}
 use Rattle.cursor.specs.Header.{headerOf}
 use Rattle.book.specs.Format.{rollbackRead, requestedResource, requestedRollback, requestRead, unheldRead, heldResource, entryRead, noEntry, entryNext, heldRead, startRead, signedRead, pieceRead, pieceNext, piecesRead, endRead, curveRead, recordRead, noRecord, recordNext, noRecords, recordsRead, tailRead, acceptedBook, refusedBook, bookOf}
 use Rattle.book.specs.Question.{foundIn, between}

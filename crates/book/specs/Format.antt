@@ -7,6 +7,7 @@ use lib.ListN.{length, getD, set, replicate}
 use Rattle.laws.specs.Count.{upto}
 use Rattle.curve.specs.declared.Piece.{Piece}
 use Rattle.curve.specs.Worth.{noPiece}
+use Rattle.curve.specs.Layout.{pieceFrom}
 use Rattle.cursor.specs.declared.Reading.{Reading}
 use Rattle.cursor.specs.declared.Header.{Header}
 use Rattle.book.specs.declared.Entry.{Entry}
@@ -24,7 +25,7 @@ use Rattle.book.specs.declared.reader.Records.{Records}
 use Rattle.cursor.specs.Refusal.{RANGE, TWICE, MODE, TAIL}
 use Rattle.cursor.specs.Field.{fieldOf, ruleOf}
 use Rattle.cursor.specs.Header.{headerOf}
-use Rattle.book.specs.Rules.{rollbackOk, requestOk, ifRequested, leastRollback, modeOk, aroundOk, lineOk, pieceFrom}
+use Rattle.book.specs.Rules.{rollbackOk, requestOk, ifRequested, leastRollback, modeOk, aroundOk, lineOk}
 
 -- A ROLLBACK TIME: "1 to 30,000, or 65,535"
 unfoldable pub rollbackRead : List ℕ → Reading → Reading

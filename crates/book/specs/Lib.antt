@@ -1,8 +1,10 @@
 pub mod Rules
-pub mod Twos
 pub mod Format
 pub mod Onward
 pub mod Question
 pub mod Spans
 pub mod Size
+pub mod Judging
+pub mod CurveWorth
 pub mod Example
+pub mod CurveExample

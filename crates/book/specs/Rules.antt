@@ -1,8 +1,8 @@
 -- The rules of 01's "The job book" that are more than a range of one field.
-use Prim.Native.Nat.{ℕ, _+_, _-_}
+use Prim.Native.Nat.{ℕ, _-_}
 use mathlib.Core.Bool.{Bool, true, false, cond}
 use lib.Dec.{ltb, leb, eqb}
-use lib.IntN.{ℤ, pos, subℕ, natAbs}
+use lib.IntN.{natAbs}
 use Rattle.curve.specs.declared.Piece.{Piece}
 use Rattle.curve.specs.Worth.{lineAt}
 
@@ -26,17 +26,10 @@ leastRollback rollback = cond (eqb rollback 65535) 65535 1
 unfoldable pub modeOk : ℕ → ℕ → ℕ → Bool
 modeOk mode rollback resource = cond (eqb mode 0) true (cond (eqb rollback 65535) false (eqb resource 255))
 
--- "signed fields in two's complement": of the numbers 0 to high, those above the half stand for the ones below 0
-unfoldable pub signedOf : ℕ → ℕ → ℤ
-signedOf high v = cond (ltb (high - v) v) (subℕ v (high + 1)) (pos v)
-
--- such a number is at most `most` away from 0
+-- a signed field, of the numbers 0 to high, is at most `most` away from 0
 unfoldable pub aroundOk : ℕ → ℕ → ℕ → Bool
 aroundOk v most high = cond (leb v most) true (ltb (high - v) most)
 
 -- "its value there must be in range too": the line of a piece at t
 unfoldable pub lineOk : Piece → ℕ → Bool
 lineOk p t = leb (natAbs (lineAt p t)) 1000000
-
-abbrev pub pieceFrom : ℕ → ℕ → ℕ → Piece
-pieceFrom start v slope = record { start = start; value = signedOf 4294967295 v; slope = signedOf 65535 slope }

@@ -8,6 +8,8 @@ pub mod held; // held.rt: the held list
 pub mod pieces; // pieces.rt: the curve
 pub mod reader; // reader.rt: records, the whole book
 pub mod question; // question.rt: one job's record as a part of the book
+mod judge; // judge.rt: a curve judged, and nothing kept of it but the last piece
+pub mod worth; // worth.rt: the bytes of one curve, asked for their worth
 
 // One line of a held list.
 pub struct Entry {

@@ -5,13 +5,13 @@ ghost use Rattle.book.specs.Format.{startRead, signedRead, pieceRead, pi
 use crate::rules::around_ok;
 use crate::rules::less;
 use crate::rules::line_ok;
-use crate::rules::piece_from;
 use cursor::Reading;
 use cursor::field::RANGE;
 use cursor::field::field;
 use cursor::field::rule;
 use curve::Curve;
 use curve::Piece;
+use curve::fields::piece_from;
 
 pub struct PieceRead {
     pub reading: Reading,
@@ -48,13 +48,13 @@ fn signed_read(s: &[u8], n: usize, most: usize, high: usize, r: Reading) -> Read
     rule(a, around_ok(a.value, most, high), RANGE, a.place)
 }
 
-fn piece_read(s: &[u8], low: usize, last: Piece, r: Reading) -> PieceRead
+pub(crate) fn piece_read(s: &[u8], low: usize, last: Piece, r: Reading) -> PieceRead
     ensures { λ o. ⌜ o ≡ pieceRead (now (s .entry)) low last r ⌝ }
 {
     let a = start_read(s, low, last, r);
     let b = signed_read(s, 4, 1000000, 4294967295, a);
     let c = signed_read(s, 2, 1000, 65535, b);
-    let p = piece_from(a.value as u32, b.value, c.value);
+    let p = piece_from(a.value as u32, b.value as u32, c.value as u16);
     PieceRead {
         reading: c,
         piece: p,
@@ -92,7 +92,7 @@ fn pieces_read(s: &[u8], r: Reading) -> PieceList
     }
 }
 
-fn end_read(s: &[u8], last: Piece, r: Reading) -> Reading
+pub(crate) fn end_read(s: &[u8], last: Piece, r: Reading) -> Reading
     ensures { λ o. ⌜ Is (endRead (now (s .entry)) last r) 2147483647 o ⌝ }
 {
     let a = field(s, r, 4, last.start as usize, 2147483647, RANGE);

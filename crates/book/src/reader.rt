@@ -98,7 +98,7 @@ fn no_record() -> Record
     }
 }
 
-fn tail(s: &[u8], r: Reading) -> Reading
+pub(crate) fn tail(s: &[u8], r: Reading) -> Reading
     ensures { λ o. ⌜ o ≡ tailRead (now (s .entry)) r ⌝ }
 {
     rule(r, r.next == s.len(), TAIL, r.next)

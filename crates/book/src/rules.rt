@@ -3,7 +3,7 @@ ghost use mathlib.Core.Path.{_≡_};
 ghost use Prim.Native.Nat.{_-_, _≤_};
 ghost use lib.Dec.{leb};
 ghost use lib.IntN.{natAbs};
-ghost use Rattle.book.specs.Rules.{rollbackOk, requestOk, ifRequested, leastRollback, modeOk, signedOf, aroundOk, lineOk, pieceFrom};
+ghost use Rattle.book.specs.Rules.{rollbackOk, requestOk, ifRequested, leastRollback, modeOk, aroundOk, lineOk};
 use curve::Piece;
 
 pub(crate) const NEVER: usize = 65535;
@@ -66,32 +66,6 @@ pub(crate) fn around_ok(v: usize, most: usize, high: usize) -> bool
         true
     } else {
         less(high, v) < most
-    }
-}
-
-// the number that v stands for, of the numbers 0 to high
-fn signed_of(v: usize, high: usize) -> i64
-    requires { ⌜ (v ≤ high) × (high ≤ 4294967295) ⌝ }
-    ensures { λ r. ⌜ r ≡ signedOf high v ⌝ }
-{
-    if high - v < v {
-        let whole = high + 1;
-        (v as i64) - (whole as i64)
-    } else {
-        v as i64
-    }
-}
-
-pub(crate) fn piece_from(start: u32, value: usize, slope: usize) -> Piece
-    requires { ⌜ (value ≤ 4294967295) × (slope ≤ 65535) ⌝ }
-    ensures { λ r. ⌜ r ≡ pieceFrom start value slope ⌝ }
-{
-    let v = signed_of(value, 4294967295);
-    let m = signed_of(slope, 65535);
-    Piece {
-        start,
-        value: v as i32,
-        slope: m as i16,
     }
 }
 

@@ -16,12 +16,20 @@ signed-read-requires-2 c κs = search needs
 cast-piece-from : tie.Need-cast-piece-from
 cast-piece-from c = search needs
 
+cast-piece-from-2 : tie.Need-cast-piece-from-2
+cast-piece-from-2 c = search needs
+
+cast-piece-from-3 : tie.Need-cast-piece-from-3
+cast-piece-from-3 c = search needs
+
 piece-from-requires : tie.Need-piece-from-requires
 piece-from-requires c κs = search needs
 
 returns : tie.Need-returns
 unfolding pieceRead
-returns c = rw (← c .before .before .before .before .start-read .ensures .is, ← c .before .before .before .signed-read .ensures .is, ← c .before .before .signed-read2 .ensures .is, ← c .piece-from .ensures)
+returns c =
+    let x = c .before .before .before .before in
+    rw (← x .before .before .start-read .ensures .is, ← x .before .signed-read .ensures .is, ← x .signed-read2 .ensures .is, ← c .piece-from .ensures)
 
 pub piece-read-spec : {M : Type 1} → statement M
 piece-read-spec =
@@ -31,5 +39,7 @@ piece-read-spec =
     signed-read-requires
     signed-read-requires-2
     cast-piece-from
+    cast-piece-from-2
+    cast-piece-from-3
     piece-from-requires
     returns)
