@@ -4,8 +4,7 @@ use mathlib.Core.List.{List, map}
 use Prim.Native.Nat.{ℕ, _<_, _≤_}
 use native.Mathlib.Omega.{arith}
 use borrow.Author.Tests.{lt-ltb, le-ltb}
-use lib.IntN.{ℤ, natAbs}
-use lib.ListN.{length-map}
+use lib.IntN.{natAbs}
 use Rattle.job.specs.declared.Job.{Job}
 use Rattle.book.specs.declared.Book.{Book}
 use Rattle.cursor.specs.Refusal.{KNOT}
@@ -30,7 +29,8 @@ use Rattle.planner.specs.declared.Stage.{Stage}
 use Rattle.planner.specs.declared.Planned.{Planned}
 use Rattle.planner.specs.declared.Opened.{Opened}
 use Rattle.planner.specs.Seen.{paid, seen}
-use Rattle.planner.specs.Flatten.{Flattened, flat-pay}
+use Rattle.planner.specs.Table.{table}
+use Rattle.planner.specs.Places.{placeFor, place-pay}
 use Rattle.planner.specs.Offering.{seenWaits}
 use Rattle.planner.specs.Laid.{laid}
 use Rattle.planner.specs.LaidView.{laid-view}
@@ -65,15 +65,15 @@ planIn v s = record {
 }
 
 -- the victims by the lent arrays are those of the jobs
-module _ (starts : List ℕ) (values slopes : List ℤ) (counts ends : List ℕ) {s : State} {now : ℕ} {l : Links} (a : Accepted (paid starts values slopes counts ends) s now) (e : l ≡ laid s) where
-  laid-is : seen starts values slopes counts ends (l .run) (l .rollback) (l .hold) (l .undo) (l .rolling) (l .left) (l .waits) ≡ viewOf (paid starts values slopes counts ends) (s .jobs)
-  laid-is = rw e (laid-view s (agreeing (a .sound) (a .holding)) starts values slopes counts ends)
+module _ (bytes places : List ℕ) {s : State} {now : ℕ} {l : Links} (a : Accepted (paid bytes places) s now) (e : l ≡ laid s) where
+  laid-is : seen bytes places (l .run) (l .rollback) (l .hold) (l .undo) (l .rolling) (l .left) (l .waits) ≡ viewOf (paid bytes places) (s .jobs)
+  laid-is = rw e (laid-view s (agreeing (a .sound) (a .holding)) bytes places)
 
-  pub waits-modest : Modest (seenWaits starts values slopes counts ends (l .run) (l .rollback) (l .waits))
-  waits-modest = modest-for-victims {v = seen starts values slopes counts ends (l .run) (l .rollback) (l .hold) (l .undo) (l .rolling) (l .left) (l .waits)} (rw laid-is (modest (paid starts values slopes counts ends) (a .worth) (a .sound) (a .small)))
+  pub waits-modest : Modest (seenWaits bytes places (l .run) (l .rollback) (l .waits))
+  waits-modest = modest-for-victims {v = seen bytes places (l .run) (l .rollback) (l .hold) (l .undo) (l .rolling) (l .left) (l .waits)} (rw laid-is (modest (paid bytes places) (a .worth) (a .sound) (a .small)))
 
-  pub victims-are : {v : Victims} → v ≡ listed (seenWaits starts values slopes counts ends (l .run) (l .rollback) (l .waits)) now → v ≡ listed (viewOf (paid starts values slopes counts ends) (s .jobs)) now
-  victims-are d = d ∙ same-listed (seen starts values slopes counts ends (l .run) (l .rollback) (l .hold) (l .undo) (l .rolling) (l .left) (l .waits)) now ∙ ap (λ (v : View). listed v now) laid-is
+  pub victims-are : {v : Victims} → v ≡ listed (seenWaits bytes places (l .run) (l .rollback) (l .waits)) now → v ≡ listed (viewOf (paid bytes places) (s .jobs)) now
+  victims-are d = d ∙ same-listed (seen bytes places (l .run) (l .rollback) (l .hold) (l .undo) (l .rolling) (l .left) (l .waits)) now ∙ ap (λ (v : View). listed v now) laid-is
 
 module _ (pay : Pay) (s : State) (now : ℕ) {v : Victims} (e : v ≡ listed (viewOf pay (s .jobs)) now) where
   pub victims-handed : Handed v
@@ -117,33 +117,31 @@ module _ (pay : Pay) (s : State) (now : ℕ) {v : Victims} (e : v ≡ listed (vi
         }))
 
 -- what is taken from a book before it is let go
-pub record Taken (b : Book) (o : Opened) : Type 0 where
+pub record Taken (s : List ℕ) (b : Book) (o : Opened) : Type 0 where
   pub number : o .number ≡ b .number
   pub place : o .place ≡ b .place
   pub now : o .now ≡ b .now
   pub jobs : o .state .jobs ≡ jobsFrom b
   pub holders : o .state .holders ≡ b .holders
-  pub curves : Flattened (b .records) (o .starts) (o .values) (o .slopes) (o .counts) (o .ends)
+  pub places : o .places ≡ table (placeFor s b) 32
 
-pub taken : {b b′ : Book} {jobs : List Job} {starts : List ℕ} {values slopes : List ℤ} {counts ends : List ℕ}
+pub taken : {s : List ℕ} {b b′ : Book} {jobs : List Job} {places : List ℕ}
     → b ≡ b′
     → jobs ≡ map jobFrom (b .records)
-    → Flattened (b .records) starts values slopes counts ends
-    → Taken b′ (record { number = b .number; place = b .place; now = b .now; state = record { jobs = jobs; holders = b .holders }; starts = starts; values = values; slopes = slopes; counts = counts; ends = ends })
-taken e j f = rw (← e) (record { number = refl; place = refl; now = refl; jobs = j; holders = refl; curves = f })
+    → places ≡ table (placeFor s b) 32
+    → Taken s b′ (record { number = b .number; place = b .place; now = b .now; state = record { jobs = jobs; holders = b .holders }; places = places })
+taken e j p = rw (← e) (record { number = refl; place = refl; now = refl; jobs = j; holders = refl; places = p })
 
-module _ (s : List ℕ) {o : Opened} (t : Taken (bookOf s) o) where
+module _ (s : List ℕ) {o : Opened} (t : Taken s (bookOf s) o) where
   pub refused : (n : ℕ) (way : Way) {r : Planned} → 0 < o .number → r ≡ refusedPlan (o .number) (o .place) → r ≡ plannedTo n way s
   unfolding plannedTo
   refused n way h q = rw (lt-ltb 0 (bookOf s .number) (omega (arith, t .number)), plannedTo) (q ∙ (λ j. refusedPlan (t .number j) (t .place j)))
 
   module _ (h : o .number ≤ 0) where
-    pay-is : paid (o .starts) (o .values) (o .slopes) (o .counts) (o .ends) ≡ payFrom (bookOf s)
-    pay-is =
-        let g = accepted-opened s (omega (arith, t .number)) in
-        flat-pay (bookOf s) (sym (length-map (bookOf s .records) jobFrom) ∙ g .sound .size) (t .curves)
+    pay-is : paid s (o .places) ≡ payFrom (bookOf s)
+    pay-is = ap (paid s) (t .places) ∙ place-pay s (omega (arith, t .number))
 
-    pub taken-accepted : Accepted (paid (o .starts) (o .values) (o .slopes) (o .counts) (o .ends)) (o .state) (o .now)
+    pub taken-accepted : Accepted (paid s (o .places)) (o .state) (o .now)
     taken-accepted =
         let g = accepted-opened s (omega (arith, t .number)) in
         record {
@@ -154,6 +152,6 @@ module _ (s : List ℕ) {o : Opened} (t : Taken (bookOf s) o) where
           now = omega (arith, t .now, g .now);
         }
 
-    pub accepted : (n : ℕ) (way : Way) {r : Planned} → r ≡ answeredTo n way (paid (o .starts) (o .values) (o .slopes) (o .counts) (o .ends)) (o .state .jobs) (o .now) → r ≡ plannedTo n way s
+    pub accepted : (n : ℕ) (way : Way) {r : Planned} → r ≡ answeredTo n way (paid s (o .places)) (o .state .jobs) (o .now) → r ≡ plannedTo n way s
     unfolding plannedTo
     accepted n way q = rw (le-ltb 0 (bookOf s .number) (omega (arith, t .number)), plannedTo) (q ∙ (λ j. answeredTo n way (pay-is j) (t .jobs j) (t .now j)))

@@ -8,18 +8,19 @@ use lib.ListN.{getD}
 use Rattle.job.specs.Times.{never}
 use Rattle.gus.specs.declared.Course.{Course}
 use Rattle.gus.specs.View.{View}
-use Rattle.gus.specs.Course.{passed, credited, denser}
-use Rattle.gus.specs.Choice.{reckon, byDensity}
-use Rattle.planner.specs.Placed.{chainIn, chain-next}
+use Rattle.gus.specs.Course.{passed, denser}
+use Rattle.gus.specs.Choice.{reckonOne, reckon, byDensity}
+use Rattle.planner.specs.Placed.{chainIn, chain-two, chain-next}
 
--- "both courses are reckoned to the end of the chain", which goes on with `rest`
-unfoldable pub undoneIsDenser : View → ℕ → ℕ → ℕ → List ℕ → Course → Bool
-undoneIsDenser v t i k rest c = denser (reckon v t rest (passed (v .undo k) c)) (reckon v t rest (credited (v .worth i) t (v .hold k) c))
+-- "both courses are reckoned to the end of the chain": the job rolls back until what x requests is free, and the rest goes on from there;
+-- or the whole chain goes on as it stands
+unfoldable pub undoneIsDenser : View → ℕ → ℕ → List ℕ → List ℕ → Course → Bool
+undoneIsDenser v t x whole rest c = denser (reckon v t rest (passed (v .undo x) c)) (reckon v t whole c)
 
 module _ (v : View) (t : ℕ) where
-  undone : (i x : ℕ) (l : List ℕ) (c : Course) → v .rolling i ≡ false → (v .rollback i ≡ never → ⊥) → undoneIsDenser v t i x (x ∷ l) c ≡ byDensity v t i x l c
-  unfolding byDensity undoneIsDenser
-  undone i x l c e n = rw (e, byDensity, ne-eqb _ _ n)
+  undone : (i x : ℕ) (l : List ℕ) (c : Course) → v .rolling i ≡ false → (v .rollback i ≡ never → ⊥) → undoneIsDenser v t x (i ∷ x ∷ l) (x ∷ l) c ≡ byDensity v t i x l c
+  unfolding byDensity undoneIsDenser reckon reckonOne
+  undone i x l c e n = rw (e, byDensity, reckonOne, ne-eqb _ _ n)
 
   -- the mode of the member at place k
   module _ (members : List ℕ) (k : ℕ) (c : Course) where
@@ -34,5 +35,5 @@ module _ (v : View) (t : ℕ) where
     unfolding byDensity
     chosen-never i p e n = rw (rw p at e, byDensity, eq-eqb _ _ (rw p at n))
 
-    pub chosen : (i x : ℕ) (r : Bool) → k < 31 → i ≡ getD members k 0 → x ≡ getD members (k + 1) 0 → v .rolling i ≡ false → (v .rollback i ≡ never → ⊥) → r ≡ undoneIsDenser v t i x (chainIn members (k + 1)) c → r ≡ mode
-    chosen i x r h p q e n u = rw (← p, ← q) ((rw (chain-next members k h, ← q) at u) ∙ undone i x (chainIn members (k + 2)) c e n)
+    pub chosen : (i x : ℕ) (r : Bool) → k < 31 → i ≡ getD members k 0 → x ≡ getD members (k + 1) 0 → v .rolling i ≡ false → (v .rollback i ≡ never → ⊥) → r ≡ undoneIsDenser v t x (chainIn members k) (chainIn members (k + 1)) c → r ≡ mode
+    chosen i x r h p q e n u = rw (← p, ← q) ((rw (chain-two members k h, chain-next members k h, ← p, ← q) at u) ∙ undone i x (chainIn members (k + 2)) c e n)

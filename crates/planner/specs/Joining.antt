@@ -96,12 +96,12 @@ module _ (way : Way) (pay : Pay) (s : Stage) {g : GroupParts} (e : g ≡ laidOut
   }
 
 -- over the lent curves, with the arrays that are laid out for a round
-module _ (starts : List ℕ) (values slopes : List ℤ) (counts ends : List ℕ) {s : State} {l : Links} (y : Sane (paid starts values slopes counts ends) s) (e : l ≡ laid s) where
-  pub round-modest : Modest (seenTimes starts values slopes counts ends (l .run) (l .rollback) (l .hold) (l .undo) (l .rolling))
-  round-modest = rw e (laid-modest s (agreeing (y .ready .sound) (y .holding)) starts values slopes counts ends (sane-modest y))
+module _ (bytes places : List ℕ) {s : State} {l : Links} (y : Sane (paid bytes places) s) (e : l ≡ laid s) where
+  pub round-modest : Modest (seenTimes bytes places (l .run) (l .rollback) (l .hold) (l .undo) (l .rolling))
+  round-modest = rw e (laid-modest s (agreeing (y .ready .sound) (y .holding)) bytes places (sane-modest y))
 
-  round-view : seen starts values slopes counts ends (l .run) (l .rollback) (l .hold) (l .undo) (l .rolling) (l .left) (l .waits) ≡ viewOf (paid starts values slopes counts ends) (s .jobs)
-  round-view = rw e (laid-view s (agreeing (y .ready .sound) (y .holding)) starts values slopes counts ends)
+  round-view : seen bytes places (l .run) (l .rollback) (l .hold) (l .undo) (l .rolling) (l .left) (l .waits) ≡ viewOf (paid bytes places) (s .jobs)
+  round-view = rw e (laid-view s (agreeing (y .ready .sound) (y .holding)) bytes places)
 
-  pub round-found : (way : Way) (t : ℕ) {g : GroupParts} → g ≡ laidOut (roundOf way (seen starts values slopes counts ends (l .run) (l .rollback) (l .hold) (l .undo) (l .rolling) (l .left) (l .waits)) t) → g ≡ laidOut (roundOf way (viewOf (paid starts values slopes counts ends) (s .jobs)) t)
+  pub round-found : (way : Way) (t : ℕ) {g : GroupParts} → g ≡ laidOut (roundOf way (seen bytes places (l .run) (l .rollback) (l .hold) (l .undo) (l .rolling) (l .left) (l .waits)) t) → g ≡ laidOut (roundOf way (viewOf (paid bytes places) (s .jobs)) t)
   round-found way t h = h ∙ ap (λ (v : View). laidOut (roundOf way v t)) round-view

@@ -7,7 +7,6 @@ use Prim.Native.Nat.{ℕ, zero, suc, _<_, _≤_}
 use native.Mathlib.Omega.{arith}
 use borrow.Author.Tests.{lt-ltb, le-ltb}
 use lib.Dec.{ltb}
-use lib.IntN.{ℤ}
 use lib.ListN.{length, getD, set, replicate, List·getD-eq-default}
 use Rattle.laws.specs.Search.{lt-or-le}
 use Rattle.job.specs.declared.Held.{Held}
@@ -75,9 +74,9 @@ module _ (s : State) (a : Agreeing s) where
   unfolding laid
   reads part f d e z g i = ap (λ l. getD l i d) (part-filled (layOne s) part f e 32 noLinks ∙ ap (fill f 32) z) ∙ filled-all f d 32 g i
 
-  module _ (starts : List ℕ) (values slopes : List ℤ) (counts ends : List ℕ) where
-    pub laid-view : seen starts values slopes counts ends (laid s .run) (laid s .rollback) (laid s .hold) (laid s .undo) (laid s .rolling) (laid s .left) (laid s .waits)
-        ≡ viewOf (paid starts values slopes counts ends) (s .jobs)
+  module _ (bytes places : List ℕ) where
+    pub laid-view : seen bytes places (laid s .run) (laid s .rollback) (laid s .hold) (laid s .undo) (laid s .rolling) (laid s .left) (laid s .waits)
+        ≡ viewOf (paid bytes places) (s .jobs)
     unfolding layOne noLinks
     laid-view = λ j. record {
       left = λ i. reads (λ l. l .left) (λ k. isLeft (jobAt (s .jobs) k)) false (λ k l. refl) refl (λ k h. ap isLeft (past k h)) i j;
@@ -87,9 +86,9 @@ module _ (s : State) (a : Agreeing s) where
       run = λ i. reads (λ l. l .run) (λ k. jobAt (s .jobs) k .run) 0 (λ k l. refl) refl (λ k h. ap (λ (x : Job). x .run) (past k h)) i j;
       rollback = λ i. reads (λ l. l .rollback) (λ k. jobAt (s .jobs) k .rollback) 0 (λ k l. refl) refl (λ k h. ap (λ (x : Job). x .rollback) (past k h)) i j;
       rolling = λ i. reads (λ l. l .rolling) (λ k. jobAt (s .jobs) k .rolling) false (λ k l. refl) refl (λ k h. ap (λ (x : Job). x .rolling) (past k h)) i j;
-      worth = paid starts values slopes counts ends;
+      worth = paid bytes places;
     }
 
     -- so their times and worths are as modest
-    pub laid-modest : Modest (viewOf (paid starts values slopes counts ends) (s .jobs)) → Modest (seenTimes starts values slopes counts ends (laid s .run) (laid s .rollback) (laid s .hold) (laid s .undo) (laid s .rolling))
+    pub laid-modest : Modest (viewOf (paid bytes places) (s .jobs)) → Modest (seenTimes bytes places (laid s .run) (laid s .rollback) (laid s .hold) (laid s .undo) (laid s .rolling))
     laid-modest m = modest-relinked (λ i. getD (laid s .left) i false) (waiting (laid s .waits)) _ (rw laid-view m)

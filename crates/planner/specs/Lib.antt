@@ -1,7 +1,6 @@
 pub mod Seen
 pub mod Table
-pub mod Flatten
-pub mod Flattening
+pub mod Places
 pub mod Taking
 pub mod Laid
 pub mod Laying

@@ -6,7 +6,6 @@ use Prim.Native.Nat.{ℕ, zero, suc, _<_, _≤_}
 use native.Mathlib.Omega.{arith}
 use borrow.Author.Tests.{eq-eqb, ne-eqb}
 use lib.Dec.{eqb}
-use lib.IntN.{ℤ}
 use Rattle.laws.specs.Count.{upto}
 use Rattle.job.specs.Times.{never}
 use Rattle.gus.specs.declared.Course.{Course}
@@ -18,8 +17,8 @@ use Rattle.gus.specs.Victims.{circleOf, lossOf, lesser, offer, victimOf}
 use Rattle.planner.specs.Seen.{seen}
 
 -- the view for what asks neither who is left nor for holds nor for modes
-abbrev pub seenWaits : List ℕ → List ℤ → List ℤ → List ℕ → List ℕ → List ℕ → List ℕ → List ℕ → View
-seenWaits starts values slopes counts ends run rollback waits = seen starts values slopes counts ends run rollback [] [] [] [] waits
+abbrev pub seenWaits : List ℕ → List ℕ → List ℕ → List ℕ → List ℕ → View
+seenWaits bytes places run rollback waits = seen bytes places run rollback [] [] [] [] waits
 
 abbrev pub taken : ℕ → Course → Best
 taken job c = record { some = true; last = job; course = c }

@@ -7,7 +7,6 @@ use native.Mathlib.Numerals.{add-one}
 use native.Mathlib.Omega.{arith}
 use lib.ListN.{length, getD, set, take, length-set}
 use lib.Seq.{take-all, take-suc-set}
-use Rattle.laws.specs.Count.{upto}
 
 module _ {A : Type 0} where
   unfoldable pub table : (ℕ → A) → ℕ → List A
@@ -48,14 +47,6 @@ module _ {A : Type 0} {f : ℕ → A} {n : ℕ} where
     size = length-set a i x ∙ inv .size;
     so-far = rw add-one (take-suc-set a i x (omega (arith, inv .size)) ∙ ap (λ (l : List A). l ++ (x ∷ [])) (inv .so-far) ∙ ap (λ (y : A). table f i ++ (y ∷ [])) e ∙ sym (table-more f i));
   }
-
-  -- m places in one go, from i on
-  pub table-run : {a : List A} {i : ℕ} (g : ℕ → A) (m : ℕ) → Tabling f n a i → i + m ≤ n → ((k : ℕ) → k < m → g k ≡ f (i + k)) → Tabling f n (upto (λ k l. set l (i + k) (g k)) m a) (i + m)
-  unfolding upto
-  table-run {a} {i} g zero inv h e = let z : i + 0 ≡ i = omega arith in rw z inv
-  table-run {a} {i} g (suc m) inv h e =
-      let s : i + suc m ≡ i + m + 1 = omega arith in
-      rw s (table-next (table-run g m inv (omega arith) (λ k l. e k (omega arith))) (omega arith) (e m (omega arith)))
 
   pub table-ended : {a : List A} {i : ℕ} → Tabling f n a i → n ≤ i → a ≡ table f n
   table-ended {a} {i} inv h =

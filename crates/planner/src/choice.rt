@@ -16,11 +16,8 @@ use gus::Course;
 
 // A job until what the next one requests is free, in its own mode and with its worth.
 fn reckon_one<'a>(
-    starts: &'a [u32; 256],
-    values: &'a [i32; 256],
-    slopes: &'a [i16; 256],
-    counts: &'a [u8; 32],
-    ends: &'a [u32; 32],
+    bytes: &'a [u8],
+    places: &'a [usize; 32],
     run: &'a [u32; 32],
     rollback: &'a [u32; 32],
     hold: &'a [u32; 32],
@@ -31,24 +28,22 @@ fn reckon_one<'a>(
     t: u32,
     c: Course,
 ) -> Course
-    requires { ⌜ Modest (seenTimes (now starts) (now values) (now slopes) (now counts) (now ends) (now run) (now rollback) (now hold) (now undo) (now rolling)) ⌝ }
+    requires { ⌜ Modest (seenTimes (now bytes) (now places) (now run) (now rollback) (now hold) (now undo) (now rolling)) ⌝ }
     requires { ⌜ (job < 32) × ((next < 32) × Planned t) ⌝ }
     requires { ⌜ Small 31 c ⌝ }
-    ensures { λ r. ⌜ r ≡ reckonOne (seenTimes (now (starts .entry)) (now (values .entry)) (now (slopes .entry)) (now (counts .entry)) (now (ends .entry)) (now (run .entry)) (now (rollback .entry)) (now (hold .entry)) (now (undo .entry)) (now (rolling .entry))) t job next c ⌝ }
+    ensures { λ r. ⌜ r ≡ reckonOne (seenTimes (now (bytes .entry)) (now (places .entry)) (now (run .entry)) (now (rollback .entry)) (now (hold .entry)) (now (undo .entry)) (now (rolling .entry))) t job next c ⌝ }
 {
     if rolling[job] {
         return pass(c, undo[next]);
     }
-    credit(starts, values, slopes, counts, ends, job, t, hold[next], c)
+    credit(bytes, places, job, t, hold[next], c)
 }
 
-// The members from place `from` on, after the course so far.
+// The members from place `from` on, after the course so far. Time and gain are two numbers: a course as one value is packed and unpacked
+// at each member.
 fn reckon<'a>(
-    starts: &'a [u32; 256],
-    values: &'a [i32; 256],
-    slopes: &'a [i16; 256],
-    counts: &'a [u8; 32],
-    ends: &'a [u32; 32],
+    bytes: &'a [u8],
+    places: &'a [usize; 32],
     run: &'a [u32; 32],
     rollback: &'a [u32; 32],
     hold: &'a [u32; 32],
@@ -59,22 +54,20 @@ fn reckon<'a>(
     t: u32,
     c: Course,
 ) -> Course
-    requires { ⌜ Modest (seenTimes (now starts) (now values) (now slopes) (now counts) (now ends) (now run) (now rollback) (now hold) (now undo) (now rolling)) ⌝ }
+    requires { ⌜ Modest (seenTimes (now bytes) (now places) (now run) (now rollback) (now hold) (now undo) (now rolling)) ⌝ }
     requires { ⌜ (Below 32 (now members)) × ((from < 32) × Planned t) ⌝ }
     requires { ⌜ Small from c ⌝ }
-    ensures { λ r. ⌜ r ≡ reckon (seenTimes (now (starts .entry)) (now (values .entry)) (now (slopes .entry)) (now (counts .entry)) (now (ends .entry)) (now (run .entry)) (now (rollback .entry)) (now (hold .entry)) (now (undo .entry)) (now (rolling .entry))) t (chainIn (now (members .entry)) from) c ⌝ }
+    ensures { λ r. ⌜ r ≡ reckon (seenTimes (now (bytes .entry)) (now (places .entry)) (now (run .entry)) (now (rollback .entry)) (now (hold .entry)) (now (undo .entry)) (now (rolling .entry))) t (chainIn (now (members .entry)) from) c ⌝ }
 {
-    let mut d = c;
+    let mut time = c.time;
+    let mut gain = c.gain;
     let mut k = from;
     while k < 31 {
         let job = wide(members[k]);
         let next = wide(members[k + 1]);
-        d = reckon_one(
-            starts,
-            values,
-            slopes,
-            counts,
-            ends,
+        let d = reckon_one(
+            bytes,
+            places,
             run,
             rollback,
             hold,
@@ -83,17 +76,16 @@ fn reckon<'a>(
             job,
             next,
             t,
-            d,
+            Course { time, gain },
         );
+        time = d.time;
+        gain = d.gain;
         k += 1;
     }
     let job = wide(members[31]);
     to_end(
-        starts,
-        values,
-        slopes,
-        counts,
-        ends,
+        bytes,
+        places,
         run,
         rollback,
         hold,
@@ -101,17 +93,16 @@ fn reckon<'a>(
         rolling,
         job,
         t,
-        d,
+        Course { time, gain },
     )
 }
 
-// Whether the job at place k, before the next one, gives more per millisecond by rolling back.
+// Whether the job at place k, which is not in rollback, gives more per millisecond by rolling back. By running it gives what its chain
+// gives from there on as it stands, so that course needs no step of its own; one more place where a worth is asked would be code that the
+// compiler no longer joins to the loop.
 fn better_undone<'a>(
-    starts: &'a [u32; 256],
-    values: &'a [i32; 256],
-    slopes: &'a [i16; 256],
-    counts: &'a [u8; 32],
-    ends: &'a [u32; 32],
+    bytes: &'a [u8],
+    places: &'a [usize; 32],
     run: &'a [u32; 32],
     rollback: &'a [u32; 32],
     hold: &'a [u32; 32],
@@ -119,41 +110,33 @@ fn better_undone<'a>(
     rolling: &'a [bool; 32],
     members: &'a [u8; 32],
     k: usize,
-    job: usize,
     next: usize,
     t: u32,
     c: Course,
 ) -> bool
-    requires { ⌜ Modest (seenTimes (now starts) (now values) (now slopes) (now counts) (now ends) (now run) (now rollback) (now hold) (now undo) (now rolling)) ⌝ }
+    requires { ⌜ Modest (seenTimes (now bytes) (now places) (now run) (now rollback) (now hold) (now undo) (now rolling)) ⌝ }
     requires { ⌜ (Below 32 (now members)) × ((k < 31) × Planned t) ⌝ }
-    requires { ⌜ (job < 32) × (next < 32) ⌝ }
+    requires { ⌜ next < 32 ⌝ }
     requires { ⌜ Small k c ⌝ }
-    ensures { λ r. ⌜ r ≡ undoneIsDenser (seenTimes (now (starts .entry)) (now (values .entry)) (now (slopes .entry)) (now (counts .entry)) (now (ends .entry)) (now (run .entry)) (now (rollback .entry)) (now (hold .entry)) (now (undo .entry)) (now (rolling .entry))) t job next (chainIn (now (members .entry)) (k + 1)) c ⌝ }
+    ensures { λ r. ⌜ r ≡ undoneIsDenser (seenTimes (now (bytes .entry)) (now (places .entry)) (now (run .entry)) (now (rollback .entry)) (now (hold .entry)) (now (undo .entry)) (now (rolling .entry))) t next (chainIn (now (members .entry)) k) (chainIn (now (members .entry)) (k + 1)) c ⌝ }
 {
-    let ran = credit(starts, values, slopes, counts, ends, job, t, hold[next], c);
     let undone = pass(c, undo[next]);
     let normal = reckon(
-        starts,
-        values,
-        slopes,
-        counts,
-        ends,
+        bytes,
+        places,
         run,
         rollback,
         hold,
         undo,
         rolling,
         members,
-        k + 1,
+        k,
         t,
-        ran,
+        c,
     );
     let back = reckon(
-        starts,
-        values,
-        slopes,
-        counts,
-        ends,
+        bytes,
+        places,
         run,
         rollback,
         hold,
@@ -169,11 +152,8 @@ fn better_undone<'a>(
 
 // Whether the job at place k rolls back.
 pub(crate) fn rolls_back<'a>(
-    starts: &'a [u32; 256],
-    values: &'a [i32; 256],
-    slopes: &'a [i16; 256],
-    counts: &'a [u8; 32],
-    ends: &'a [u32; 32],
+    bytes: &'a [u8],
+    places: &'a [usize; 32],
     run: &'a [u32; 32],
     rollback: &'a [u32; 32],
     hold: &'a [u32; 32],
@@ -184,10 +164,10 @@ pub(crate) fn rolls_back<'a>(
     t: u32,
     c: Course,
 ) -> bool
-    requires { ⌜ Modest (seenTimes (now starts) (now values) (now slopes) (now counts) (now ends) (now run) (now rollback) (now hold) (now undo) (now rolling)) ⌝ }
+    requires { ⌜ Modest (seenTimes (now bytes) (now places) (now run) (now rollback) (now hold) (now undo) (now rolling)) ⌝ }
     requires { ⌜ (Below 32 (now members)) × ((k < 31) × Planned t) ⌝ }
     requires { ⌜ Small k c ⌝ }
-    ensures { λ r. ⌜ r ≡ byDensity (seenTimes (now (starts .entry)) (now (values .entry)) (now (slopes .entry)) (now (counts .entry)) (now (ends .entry)) (now (run .entry)) (now (rollback .entry)) (now (hold .entry)) (now (undo .entry)) (now (rolling .entry))) t (getD (now (members .entry)) k 0) (getD (now (members .entry)) (k + 1) 0) (chainIn (now (members .entry)) (k + 2)) c ⌝ }
+    ensures { λ r. ⌜ r ≡ byDensity (seenTimes (now (bytes .entry)) (now (places .entry)) (now (run .entry)) (now (rollback .entry)) (now (hold .entry)) (now (undo .entry)) (now (rolling .entry))) t (getD (now (members .entry)) k 0) (getD (now (members .entry)) (k + 1) 0) (chainIn (now (members .entry)) (k + 2)) c ⌝ }
 {
     let job = wide(members[k]);
     if rolling[job] {
@@ -198,11 +178,8 @@ pub(crate) fn rolls_back<'a>(
     }
     let next = wide(members[k + 1]);
     better_undone(
-        starts,
-        values,
-        slopes,
-        counts,
-        ends,
+        bytes,
+        places,
         run,
         rollback,
         hold,
@@ -210,7 +187,6 @@ pub(crate) fn rolls_back<'a>(
         rolling,
         members,
         k,
-        job,
         next,
         t,
         c,

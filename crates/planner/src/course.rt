@@ -5,6 +5,7 @@ ghost use lib.IntN.{natAbs, _+ℤ_};
 ghost use Rattle.gus.specs.Course.{passed, credited, denser, toEnd};
 ghost use Rattle.planner.specs.Seen.{paid, seenTimes};
 ghost use Rattle.planner.specs.Bounds.{Modest, Small, Planned};
+use curve::question::worth_at;
 use gus::Course;
 
 pub(crate) fn pass(c: Course, n: u32) -> Course
@@ -24,35 +25,37 @@ fn plus(gain: i32, worth: i64) -> i32
     gain + w
 }
 
+// What finishing a job at t is worth, by its curve in the book.
+pub(crate) fn worth_of<'a>(bytes: &'a [u8], places: &'a [usize; 32], job: usize, t: u32) -> i64
+    requires { ⌜ job < 32 ⌝ }
+    ensures { λ r. ⌜ r ≡ paid (now (bytes .entry)) (now (places .entry)) job t ⌝ }
+{
+    worth_at(bytes, places[job], t)
+}
+
 // A job runs for n and is credited its worth at that moment.
 pub(crate) fn credit<'a>(
-    starts: &'a [u32; 256],
-    values: &'a [i32; 256],
-    slopes: &'a [i16; 256],
-    counts: &'a [u8; 32],
-    ends: &'a [u32; 32],
+    bytes: &'a [u8],
+    places: &'a [usize; 32],
     job: usize,
     t: u32,
     n: u32,
     c: Course,
 ) -> Course
-    requires { ⌜ (n ≤ 65535) × Small 31 c ⌝ }
-    requires { ⌜ Planned t × (natAbs (paid (now starts) (now values) (now slopes) (now counts) (now ends) job (t + (c .time + n))) ≤ 1_000_000) ⌝ }
-    ensures { λ r. ⌜ r ≡ credited (paid (now (starts .entry)) (now (values .entry)) (now (slopes .entry)) (now (counts .entry)) (now (ends .entry)) job) t n c ⌝ }
+    requires { ⌜ (job < 32) × ((n ≤ 65535) × Small 31 c) ⌝ }
+    requires { ⌜ Planned t × (natAbs (paid (now bytes) (now places) job (t + (c .time + n))) ≤ 1_000_000) ⌝ }
+    ensures { λ r. ⌜ r ≡ credited (paid (now (bytes .entry)) (now (places .entry)) job) t n c ⌝ }
 {
     let time = c.time + n;
-    let worth = curve::worth_of(starts, values, slopes, counts, ends, job, t + time);
+    let worth = worth_of(bytes, places, job, t + time);
     let gain = plus(c.gain, worth);
     Course { time, gain }
 }
 
 // A job to its end in its own mode.
 pub(crate) fn to_end<'a>(
-    starts: &'a [u32; 256],
-    values: &'a [i32; 256],
-    slopes: &'a [i16; 256],
-    counts: &'a [u8; 32],
-    ends: &'a [u32; 32],
+    bytes: &'a [u8],
+    places: &'a [usize; 32],
     run: &'a [u32; 32],
     rollback: &'a [u32; 32],
     hold: &'a [u32; 32],
@@ -62,15 +65,15 @@ pub(crate) fn to_end<'a>(
     t: u32,
     c: Course,
 ) -> Course
-    requires { ⌜ Modest (seenTimes (now starts) (now values) (now slopes) (now counts) (now ends) (now run) (now rollback) (now hold) (now undo) (now rolling)) ⌝ }
+    requires { ⌜ Modest (seenTimes (now bytes) (now places) (now run) (now rollback) (now hold) (now undo) (now rolling)) ⌝ }
     requires { ⌜ (job < 32) × Planned t ⌝ }
     requires { ⌜ Small 31 c ⌝ }
-    ensures { λ r. ⌜ r ≡ toEnd (seenTimes (now (starts .entry)) (now (values .entry)) (now (slopes .entry)) (now (counts .entry)) (now (ends .entry)) (now (run .entry)) (now (rollback .entry)) (now (hold .entry)) (now (undo .entry)) (now (rolling .entry))) t job c ⌝ }
+    ensures { λ r. ⌜ r ≡ toEnd (seenTimes (now (bytes .entry)) (now (places .entry)) (now (run .entry)) (now (rollback .entry)) (now (hold .entry)) (now (undo .entry)) (now (rolling .entry))) t job c ⌝ }
 {
     if rolling[job] {
         return pass(c, rollback[job]);
     }
-    credit(starts, values, slopes, counts, ends, job, t, run[job], c)
+    credit(bytes, places, job, t, run[job], c)
 }
 
 // Whether a gives more utility per millisecond than b.

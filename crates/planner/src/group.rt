@@ -35,11 +35,8 @@ fn time_in<'a>(back: bool, backward: &'a [u32; 32], forward: &'a [u32; 32], i: u
 
 // A job in the mode chosen, until what the next one requests is free: a run of all its run time earns its worth.
 pub(crate) fn to_free<'a>(
-    starts: &'a [u32; 256],
-    values: &'a [i32; 256],
-    slopes: &'a [i16; 256],
-    counts: &'a [u8; 32],
-    ends: &'a [u32; 32],
+    bytes: &'a [u8],
+    places: &'a [usize; 32],
     run: &'a [u32; 32],
     rollback: &'a [u32; 32],
     hold: &'a [u32; 32],
@@ -51,27 +48,24 @@ pub(crate) fn to_free<'a>(
     t: u32,
     c: Course,
 ) -> Course
-    requires { ⌜ Modest (seenTimes (now starts) (now values) (now slopes) (now counts) (now ends) (now run) (now rollback) (now hold) (now undo) (now rolling)) ⌝ }
+    requires { ⌜ Modest (seenTimes (now bytes) (now places) (now run) (now rollback) (now hold) (now undo) (now rolling)) ⌝ }
     requires { ⌜ (job < 32) × ((next < 32) × Planned t) ⌝ }
     requires { ⌜ Small 31 c ⌝ }
-    ensures { λ r. ⌜ r ≡ toFree (seenTimes (now (starts .entry)) (now (values .entry)) (now (slopes .entry)) (now (counts .entry)) (now (ends .entry)) (now (run .entry)) (now (rollback .entry)) (now (hold .entry)) (now (undo .entry)) (now (rolling .entry))) t job next back c ⌝ }
+    ensures { λ r. ⌜ r ≡ toFree (seenTimes (now (bytes .entry)) (now (places .entry)) (now (run .entry)) (now (rollback .entry)) (now (hold .entry)) (now (undo .entry)) (now (rolling .entry))) t job next back c ⌝ }
 {
     if back {
         return pass(c, undo[next]);
     }
     if hold[next] == run[job] {
-        return credit(starts, values, slopes, counts, ends, job, t, hold[next], c);
+        return credit(bytes, places, job, t, hold[next], c);
     }
     pass(c, hold[next])
 }
 
 // The group of the chain at places from .. 32.
 fn grow<'a>(
-    starts: &'a [u32; 256],
-    values: &'a [i32; 256],
-    slopes: &'a [i16; 256],
-    counts: &'a [u8; 32],
-    ends: &'a [u32; 32],
+    bytes: &'a [u8],
+    places: &'a [usize; 32],
     run: &'a [u32; 32],
     rollback: &'a [u32; 32],
     hold: &'a [u32; 32],
@@ -81,9 +75,9 @@ fn grow<'a>(
     from: usize,
     t: u32,
 ) -> GroupParts
-    requires { ⌜ Modest (seenTimes (now starts) (now values) (now slopes) (now counts) (now ends) (now run) (now rollback) (now hold) (now undo) (now rolling)) ⌝ }
+    requires { ⌜ Modest (seenTimes (now bytes) (now places) (now run) (now rollback) (now hold) (now undo) (now rolling)) ⌝ }
     requires { ⌜ (Below 32 (now members)) × ((from < 32) × Planned t) ⌝ }
-    ensures { λ r. ⌜ r ≡ laidOut (grow byDensity (seenTimes (now (starts .entry)) (now (values .entry)) (now (slopes .entry)) (now (counts .entry)) (now (ends .entry)) (now (run .entry)) (now (rollback .entry)) (now (hold .entry)) (now (undo .entry)) (now (rolling .entry))) t (chainIn (now (members .entry)) from) start) ⌝ }
+    ensures { λ r. ⌜ r ≡ laidOut (grow byDensity (seenTimes (now (bytes .entry)) (now (places .entry)) (now (run .entry)) (now (rollback .entry)) (now (hold .entry)) (now (undo .entry)) (now (rolling .entry))) t (chainIn (now (members .entry)) from) start) ⌝ }
 {
     let empty = Part {
         job: 0,
@@ -99,11 +93,8 @@ fn grow<'a>(
         let job = wide(number);
         let next = wide(members[k + 1]);
         let back = rolls_back(
-            starts,
-            values,
-            slopes,
-            counts,
-            ends,
+            bytes,
+            places,
             run,
             rollback,
             hold,
@@ -121,11 +112,8 @@ fn grow<'a>(
             time,
         };
         c = to_free(
-            starts,
-            values,
-            slopes,
-            counts,
-            ends,
+            bytes,
+            places,
             run,
             rollback,
             hold,
@@ -149,21 +137,7 @@ fn grow<'a>(
         rolling: back,
         time,
     };
-    let course = to_end(
-        starts,
-        values,
-        slopes,
-        counts,
-        ends,
-        run,
-        rollback,
-        hold,
-        undo,
-        rolling,
-        job,
-        t,
-        c,
-    );
+    let course = to_end(bytes, places, run, rollback, hold, undo, rolling, job, t, c);
     let count = n + 1;
     GroupParts {
         parts,
@@ -174,11 +148,8 @@ fn grow<'a>(
 
 // The group of a job, whoever is left.
 pub(crate) fn group<'a>(
-    starts: &'a [u32; 256],
-    values: &'a [i32; 256],
-    slopes: &'a [i16; 256],
-    counts: &'a [u8; 32],
-    ends: &'a [u32; 32],
+    bytes: &'a [u8],
+    places: &'a [usize; 32],
     run: &'a [u32; 32],
     rollback: &'a [u32; 32],
     hold: &'a [u32; 32],
@@ -188,18 +159,15 @@ pub(crate) fn group<'a>(
     last: usize,
     t: u32,
 ) -> GroupParts
-    requires { ⌜ Modest (seenTimes (now starts) (now values) (now slopes) (now counts) (now ends) (now run) (now rollback) (now hold) (now undo) (now rolling)) ⌝ }
+    requires { ⌜ Modest (seenTimes (now bytes) (now places) (now run) (now rollback) (now hold) (now undo) (now rolling)) ⌝ }
     requires { ⌜ (last < 32) × Planned t ⌝ }
-    ensures { λ r. ⌜ ((left : List Bool) → r ≡ laidOut (groupOf byDensity (seen (now (starts .entry)) (now (values .entry)) (now (slopes .entry)) (now (counts .entry)) (now (ends .entry)) (now (run .entry)) (now (rollback .entry)) (now (hold .entry)) (now (undo .entry)) (now (rolling .entry)) left (now (waits .entry))) t last)) ⌝ }
+    ensures { λ r. ⌜ ((left : List Bool) → r ≡ laidOut (groupOf byDensity (seen (now (bytes .entry)) (now (places .entry)) (now (run .entry)) (now (rollback .entry)) (now (hold .entry)) (now (undo .entry)) (now (rolling .entry)) left (now (waits .entry))) t last)) ⌝ }
 {
     let mut members = [0u8; 32];
     let from = follow(waits, last, &mut members);
     grow(
-        starts,
-        values,
-        slopes,
-        counts,
-        ends,
+        bytes,
+        places,
         run,
         rollback,
         hold,

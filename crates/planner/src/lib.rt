@@ -5,7 +5,7 @@ use gus::Part;
 use job::Job;
 
 pub mod start; // the planner's jobs, from the book's records
-pub mod flat; // the curves in flat arrays
+pub mod places; // where each job's curve stands in the book
 pub mod lay; // what a round asks of the jobs, in arrays
 pub mod circles; // V.1: wait circles
 pub mod victim; // V.1: the victim of one circle
@@ -65,17 +65,13 @@ pub struct Stage {
     pub moment: u32,
 }
 
-// What is taken from a book: its refusal, now, the jobs and holders, and the curves in flat arrays.
+// What is taken from a book: its refusal, now, the jobs and holders, and where in the book each job's curve stands.
 pub struct Opened {
     pub number: u8,
     pub place: usize,
     pub now: u32,
     pub state: State,
-    pub starts: [u32; 256],
-    pub values: [i32; 256],
-    pub slopes: [i16; 256],
-    pub counts: [u8; 32],
-    pub ends: [u32; 32],
+    pub places: [usize; 32],
 }
 
 // number: 0, or the refusal's, and then place is its place and the rest is empty.

@@ -37,20 +37,17 @@ fn note(mut v: Victims, b: Best, low: u8) -> Victims
 }
 
 fn list_victims<'a>(
-    starts: &'a [u32; 256],
-    values: &'a [i32; 256],
-    slopes: &'a [i16; 256],
-    counts: &'a [u8; 32],
-    ends: &'a [u32; 32],
+    bytes: &'a [u8],
+    places: &'a [usize; 32],
     run: &'a [u32; 32],
     rollback: &'a [u32; 32],
     waits: &'a [u8; 32],
     circles: &'a [u8; 32],
     t: u32,
 ) -> Victims
-    requires { ⌜ Modest (seenWaits (now starts) (now values) (now slopes) (now counts) (now ends) (now run) (now rollback) (now waits)) ⌝ }
+    requires { ⌜ Modest (seenWaits (now bytes) (now places) (now run) (now rollback) (now waits)) ⌝ }
     requires { ⌜ (t ≤ 4_000_000_000) × (now circles ≡ circlesOf (waiting (now waits))) ⌝ }
-    ensures { λ r. ⌜ r ≡ listed (seenWaits (now (starts .entry)) (now (values .entry)) (now (slopes .entry)) (now (counts .entry)) (now (ends .entry)) (now (run .entry)) (now (rollback .entry)) (now (waits .entry))) t ⌝ }
+    ensures { λ r. ⌜ r ≡ listed (seenWaits (now (bytes .entry)) (now (places .entry)) (now (run .entry)) (now (rollback .entry)) (now (waits .entry))) t ⌝ }
 {
     let mut v = Victims {
         list: [0u8; 32],
@@ -61,19 +58,7 @@ fn list_victims<'a>(
     while job < 32 {
         let low = job as u8;
         if circles[job] == low {
-            let b = victim_of(
-                starts,
-                values,
-                slopes,
-                counts,
-                ends,
-                run,
-                rollback,
-                waits,
-                circles,
-                low,
-                t,
-            );
+            let b = victim_of(bytes, places, run, rollback, waits, circles, low, t);
             v = note(v, b, low);
         }
         job += 1;
@@ -82,31 +67,17 @@ fn list_victims<'a>(
 }
 
 pub(crate) fn victims<'a>(
-    starts: &'a [u32; 256],
-    values: &'a [i32; 256],
-    slopes: &'a [i16; 256],
-    counts: &'a [u8; 32],
-    ends: &'a [u32; 32],
+    bytes: &'a [u8],
+    places: &'a [usize; 32],
     run: &'a [u32; 32],
     rollback: &'a [u32; 32],
     waits: &'a [u8; 32],
     t: u32,
 ) -> Victims
-    requires { ⌜ Modest (seenWaits (now starts) (now values) (now slopes) (now counts) (now ends) (now run) (now rollback) (now waits)) ⌝ }
+    requires { ⌜ Modest (seenWaits (now bytes) (now places) (now run) (now rollback) (now waits)) ⌝ }
     requires { ⌜ t ≤ 4_000_000_000 ⌝ }
-    ensures { λ r. ⌜ r ≡ listed (seenWaits (now (starts .entry)) (now (values .entry)) (now (slopes .entry)) (now (counts .entry)) (now (ends .entry)) (now (run .entry)) (now (rollback .entry)) (now (waits .entry))) t ⌝ }
+    ensures { λ r. ⌜ r ≡ listed (seenWaits (now (bytes .entry)) (now (places .entry)) (now (run .entry)) (now (rollback .entry)) (now (waits .entry))) t ⌝ }
 {
     let found = circles(waits);
-    list_victims(
-        starts,
-        values,
-        slopes,
-        counts,
-        ends,
-        run,
-        rollback,
-        waits,
-        &found,
-        t,
-    )
+    list_victims(bytes, places, run, rollback, waits, &found, t)
 }

@@ -11,10 +11,9 @@ use crate::Planned;
 use crate::Stage;
 use crate::State;
 use crate::Victims;
-use crate::flat::count_of;
-use crate::flat::lay_pieces;
 use crate::lay::lay;
 use crate::listing::victims;
+use crate::places::curve_place;
 use crate::rounds::rounds;
 use crate::settle::settle;
 use crate::start::job_of;
@@ -44,26 +43,21 @@ fn refused_plan(number: u8, place: usize) -> Planned
     }
 }
 
-// What the plan takes from a book, so that the book is gone before the rounds. The records are read where they stand: they are 10 KB.
+// What the plan takes from a book, so that its records, 10 KB, are gone before the rounds. They are read where they stand.
 fn open_book(bytes: &[u8]) -> Opened
-    ensures { λ r. ⌜ Taken (bookOf (now (bytes .entry))) r ⌝ }
+    ensures { λ r. ⌜ Taken (now (bytes .entry)) (bookOf (now (bytes .entry))) r ⌝ }
 {
     let b = book::reader::read_book(bytes);
     let none = no_job();
     let mut jobs = [none; 32];
-    let mut starts = [0u32; 256];
-    let mut values = [0i32; 256];
-    let mut slopes = [0i16; 256];
-    let mut counts = [0u8; 32];
-    let mut ends = [0u32; 32];
+    let end = bytes.len();
+    let mut places = [0usize; 32];
     let mut i: usize = 0;
     while i < 32 {
         let x = b.records[i];
-        let c = x.curve;
+        let span = b.spans[i];
         jobs[i] = job_of(x);
-        counts[i] = count_of(c.count);
-        ends[i] = c.end;
-        lay_pieces(c, 8 * i, &mut starts, &mut values, &mut slopes);
+        places[i] = curve_place(i, b.jobs, span.start, x.holds, end);
         i += 1;
     }
     let holders = b.holders;
@@ -73,11 +67,7 @@ fn open_book(bytes: &[u8]) -> Opened
         place: b.place,
         now: b.now,
         state,
-        starts,
-        values,
-        slopes,
-        counts,
-        ends,
+        places,
     }
 }
 
@@ -99,32 +89,13 @@ fn plan_of(v: Victims, s: Stage) -> Planned
     }
 }
 
-fn answer<'a>(
-    starts: &'a [u32; 256],
-    values: &'a [i32; 256],
-    slopes: &'a [i16; 256],
-    counts: &'a [u8; 32],
-    ends: &'a [u32; 32],
-    s: State,
-    t: u32,
-    limit: usize,
-) -> Planned
-    requires { ⌜ Accepted (paid (now starts) (now values) (now slopes) (now counts) (now ends)) s t ⌝ }
+fn answer<'a>(bytes: &'a [u8], places: &'a [usize; 32], s: State, t: u32, limit: usize) -> Planned
+    requires { ⌜ Accepted (paid (now bytes) (now places)) s t ⌝ }
     requires { ⌜ limit ≤ 32 ⌝ }
-    ensures { λ r. ⌜ r ≡ answeredTo limit byDensity (paid (now (starts .entry)) (now (values .entry)) (now (slopes .entry)) (now (counts .entry)) (now (ends .entry))) (s .jobs) t ⌝ }
+    ensures { λ r. ⌜ r ≡ answeredTo limit byDensity (paid (now (bytes .entry)) (now (places .entry))) (s .jobs) t ⌝ }
 {
     let l = lay(s);
-    let v = victims(
-        starts,
-        values,
-        slopes,
-        counts,
-        ends,
-        &l.run,
-        &l.rollback,
-        &l.waits,
-        t,
-    );
+    let v = victims(bytes, places, &l.run, &l.rollback, &l.waits, t);
     if v.knot < 32 {
         return refused_plan(KNOT, v.knot as usize);
     }
@@ -135,7 +106,7 @@ fn answer<'a>(
         jobs: left,
         holders,
     };
-    let last = rounds(starts, values, slopes, counts, ends, state, t, limit);
+    let last = rounds(bytes, places, state, t, limit);
     plan_of(v, last)
 }
 
@@ -149,16 +120,7 @@ pub(crate) fn plan_in(bytes: &[u8], limit: usize) -> Planned
         return refused_plan(o.number, o.place);
     }
     let state = o.state;
-    answer(
-        &o.starts,
-        &o.values,
-        &o.slopes,
-        &o.counts,
-        &o.ends,
-        state,
-        o.now,
-        limit,
-    )
+    answer(bytes, &o.places, state, o.now, limit)
 }
 
 // No more rounds than jobs, since each ends one.

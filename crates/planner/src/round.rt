@@ -38,11 +38,8 @@ fn no_group() -> GroupParts
 
 // A group without parts: no group is worth more than zero, and the plan ends.
 pub(crate) fn round<'a>(
-    starts: &'a [u32; 256],
-    values: &'a [i32; 256],
-    slopes: &'a [i16; 256],
-    counts: &'a [u8; 32],
-    ends: &'a [u32; 32],
+    bytes: &'a [u8],
+    places: &'a [usize; 32],
     run: &'a [u32; 32],
     rollback: &'a [u32; 32],
     hold: &'a [u32; 32],
@@ -52,16 +49,13 @@ pub(crate) fn round<'a>(
     waits: &'a [u8; 32],
     t: u32,
 ) -> GroupParts
-    requires { ⌜ Modest (seenTimes (now starts) (now values) (now slopes) (now counts) (now ends) (now run) (now rollback) (now hold) (now undo) (now rolling)) ⌝ }
+    requires { ⌜ Modest (seenTimes (now bytes) (now places) (now run) (now rollback) (now hold) (now undo) (now rolling)) ⌝ }
     requires { ⌜ Planned t ⌝ }
-    ensures { λ r. ⌜ r ≡ laidOut (roundOf byDensity (seen (now (starts .entry)) (now (values .entry)) (now (slopes .entry)) (now (counts .entry)) (now (ends .entry)) (now (run .entry)) (now (rollback .entry)) (now (hold .entry)) (now (undo .entry)) (now (rolling .entry)) (now (left .entry)) (now (waits .entry))) t) ⌝ }
+    ensures { λ r. ⌜ r ≡ laidOut (roundOf byDensity (seen (now (bytes .entry)) (now (places .entry)) (now (run .entry)) (now (rollback .entry)) (now (hold .entry)) (now (undo .entry)) (now (rolling .entry)) (now (left .entry)) (now (waits .entry))) t) ⌝ }
 {
     let b = scan(
-        starts,
-        values,
-        slopes,
-        counts,
-        ends,
+        bytes,
+        places,
         run,
         rollback,
         hold,
@@ -75,11 +69,8 @@ pub(crate) fn round<'a>(
     if above_zero(best) {
         let last = wide(b.last);
         return group(
-            starts,
-            values,
-            slopes,
-            counts,
-            ends,
+            bytes,
+            places,
             run,
             rollback,
             hold,

@@ -41,18 +41,15 @@ fn sum(total: i32, gain: i32) -> i32
 // most of what a round with short chains costs. After the last round that may be made nobody asks for it, so there it is left as it
 // was.
 pub(crate) fn rounds<'a>(
-    starts: &'a [u32; 256],
-    values: &'a [i32; 256],
-    slopes: &'a [i16; 256],
-    counts: &'a [u8; 32],
-    ends: &'a [u32; 32],
+    bytes: &'a [u8],
+    places: &'a [usize; 32],
     state: State,
     t: u32,
     limit: usize,
 ) -> Stage
-    requires { ⌜ (Sane (paid (now starts) (now values) (now slopes) (now counts) (now ends)) state) × (t ≤ 2147483647) ⌝ }
+    requires { ⌜ (Sane (paid (now bytes) (now places)) state) × (t ≤ 2147483647) ⌝ }
     requires { ⌜ limit ≤ 32 ⌝ }
-    ensures { λ r. ⌜ Rounded (rounds limit byDensity (paid (now (starts .entry)) (now (values .entry)) (now (slopes .entry)) (now (counts .entry)) (now (ends .entry))) (state .jobs) t) r ⌝ }
+    ensures { λ r. ⌜ Rounded (rounds limit byDensity (paid (now (bytes .entry)) (now (places .entry))) (state .jobs) t) r ⌝ }
 {
     let empty = Part {
         job: 0,
@@ -68,11 +65,8 @@ pub(crate) fn rounds<'a>(
     while i < limit {
         let l = lay(current);
         let g = round(
-            starts,
-            values,
-            slopes,
-            counts,
-            ends,
+            bytes,
+            places,
             &l.run,
             &l.rollback,
             &l.hold,

@@ -19,11 +19,8 @@ use gus::Course;
 
 // The course of a chain's group, without its parts.
 fn score<'a>(
-    starts: &'a [u32; 256],
-    values: &'a [i32; 256],
-    slopes: &'a [i16; 256],
-    counts: &'a [u8; 32],
-    ends: &'a [u32; 32],
+    bytes: &'a [u8],
+    places: &'a [usize; 32],
     run: &'a [u32; 32],
     rollback: &'a [u32; 32],
     hold: &'a [u32; 32],
@@ -33,9 +30,9 @@ fn score<'a>(
     from: usize,
     t: u32,
 ) -> Course
-    requires { ⌜ Modest (seenTimes (now starts) (now values) (now slopes) (now counts) (now ends) (now run) (now rollback) (now hold) (now undo) (now rolling)) ⌝ }
+    requires { ⌜ Modest (seenTimes (now bytes) (now places) (now run) (now rollback) (now hold) (now undo) (now rolling)) ⌝ }
     requires { ⌜ (Below 32 (now members)) × ((from < 32) × Planned t) ⌝ }
-    ensures { λ r. ⌜ r ≡ grow byDensity (seenTimes (now (starts .entry)) (now (values .entry)) (now (slopes .entry)) (now (counts .entry)) (now (ends .entry)) (now (run .entry)) (now (rollback .entry)) (now (hold .entry)) (now (undo .entry)) (now (rolling .entry))) t (chainIn (now (members .entry)) from) start .course ⌝ }
+    ensures { λ r. ⌜ r ≡ grow byDensity (seenTimes (now (bytes .entry)) (now (places .entry)) (now (run .entry)) (now (rollback .entry)) (now (hold .entry)) (now (undo .entry)) (now (rolling .entry))) t (chainIn (now (members .entry)) from) start .course ⌝ }
 {
     let mut c = Course { time: 0, gain: 0 };
     let mut k = from;
@@ -43,11 +40,8 @@ fn score<'a>(
         let job = wide(members[k]);
         let next = wide(members[k + 1]);
         let back = rolls_back(
-            starts,
-            values,
-            slopes,
-            counts,
-            ends,
+            bytes,
+            places,
             run,
             rollback,
             hold,
@@ -59,11 +53,8 @@ fn score<'a>(
             c,
         );
         c = to_free(
-            starts,
-            values,
-            slopes,
-            counts,
-            ends,
+            bytes,
+            places,
             run,
             rollback,
             hold,
@@ -78,21 +69,7 @@ fn score<'a>(
         k += 1;
     }
     let job = wide(members[31]);
-    to_end(
-        starts,
-        values,
-        slopes,
-        counts,
-        ends,
-        run,
-        rollback,
-        hold,
-        undo,
-        rolling,
-        job,
-        t,
-        c,
-    )
+    to_end(bytes, places, run, rollback, hold, undo, rolling, job, t, c)
 }
 
 // A tie stays with the lower number.
@@ -119,11 +96,8 @@ fn better(job: u8, c: Course, b: Best) -> Best
 
 // A job, if it is left, against the best of those before it.
 fn consider<'a>(
-    starts: &'a [u32; 256],
-    values: &'a [i32; 256],
-    slopes: &'a [i16; 256],
-    counts: &'a [u8; 32],
-    ends: &'a [u32; 32],
+    bytes: &'a [u8],
+    places: &'a [usize; 32],
     run: &'a [u32; 32],
     rollback: &'a [u32; 32],
     hold: &'a [u32; 32],
@@ -135,19 +109,16 @@ fn consider<'a>(
     t: u32,
     b: Best,
 ) -> Best
-    requires { ⌜ Modest (seenTimes (now starts) (now values) (now slopes) (now counts) (now ends) (now run) (now rollback) (now hold) (now undo) (now rolling)) ⌝ }
+    requires { ⌜ Modest (seenTimes (now bytes) (now places) (now run) (now rollback) (now hold) (now undo) (now rolling)) ⌝ }
     requires { ⌜ (job < 32) × Planned t ⌝ }
-    ensures { λ r. ⌜ r ≡ consider byDensity (seen (now (starts .entry)) (now (values .entry)) (now (slopes .entry)) (now (counts .entry)) (now (ends .entry)) (now (run .entry)) (now (rollback .entry)) (now (hold .entry)) (now (undo .entry)) (now (rolling .entry)) (now (left .entry)) (now (waits .entry))) t job b ⌝ }
+    ensures { λ r. ⌜ r ≡ consider byDensity (seen (now (bytes .entry)) (now (places .entry)) (now (run .entry)) (now (rollback .entry)) (now (hold .entry)) (now (undo .entry)) (now (rolling .entry)) (now (left .entry)) (now (waits .entry))) t job b ⌝ }
 {
     if left[job] {
         let mut members = [0u8; 32];
         let from = follow(waits, job, &mut members);
         let c = score(
-            starts,
-            values,
-            slopes,
-            counts,
-            ends,
+            bytes,
+            places,
             run,
             rollback,
             hold,
@@ -164,11 +135,8 @@ fn consider<'a>(
 
 // The round's best group, as numbers.
 pub(crate) fn scan<'a>(
-    starts: &'a [u32; 256],
-    values: &'a [i32; 256],
-    slopes: &'a [i16; 256],
-    counts: &'a [u8; 32],
-    ends: &'a [u32; 32],
+    bytes: &'a [u8],
+    places: &'a [usize; 32],
     run: &'a [u32; 32],
     rollback: &'a [u32; 32],
     hold: &'a [u32; 32],
@@ -178,9 +146,9 @@ pub(crate) fn scan<'a>(
     waits: &'a [u8; 32],
     t: u32,
 ) -> Best
-    requires { ⌜ Modest (seenTimes (now starts) (now values) (now slopes) (now counts) (now ends) (now run) (now rollback) (now hold) (now undo) (now rolling)) ⌝ }
+    requires { ⌜ Modest (seenTimes (now bytes) (now places) (now run) (now rollback) (now hold) (now undo) (now rolling)) ⌝ }
     requires { ⌜ Planned t ⌝ }
-    ensures { λ r. ⌜ r ≡ bestOf byDensity (seen (now (starts .entry)) (now (values .entry)) (now (slopes .entry)) (now (counts .entry)) (now (ends .entry)) (now (run .entry)) (now (rollback .entry)) (now (hold .entry)) (now (undo .entry)) (now (rolling .entry)) (now (left .entry)) (now (waits .entry))) t ⌝ }
+    ensures { λ r. ⌜ r ≡ bestOf byDensity (seen (now (bytes .entry)) (now (places .entry)) (now (run .entry)) (now (rollback .entry)) (now (hold .entry)) (now (undo .entry)) (now (rolling .entry)) (now (left .entry)) (now (waits .entry))) t ⌝ }
 {
     let none = Course { time: 0, gain: 0 };
     let mut b = Best {
@@ -191,11 +159,8 @@ pub(crate) fn scan<'a>(
     let mut job: usize = 0;
     while job < 32 {
         b = consider(
-            starts,
-            values,
-            slopes,
-            counts,
-            ends,
+            bytes,
+            places,
             run,
             rollback,
             hold,

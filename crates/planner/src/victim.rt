@@ -6,6 +6,7 @@ ghost use Rattle.planner.specs.Seen.{waiting};
 ghost use Rattle.planner.specs.Bounds.{Modest};
 ghost use Rattle.planner.specs.Circling.{circlesOf};
 ghost use Rattle.planner.specs.Offering.{seenWaits};
+use crate::course::worth_of;
 use gus::Best;
 use gus::Course;
 
@@ -13,23 +14,20 @@ const NEVER: u32 = 65535;
 
 // "worth at now + run time left, divided by run time left"; no member of a circle is in rollback (R-8).
 fn loss_of<'a>(
-    starts: &'a [u32; 256],
-    values: &'a [i32; 256],
-    slopes: &'a [i16; 256],
-    counts: &'a [u8; 32],
-    ends: &'a [u32; 32],
+    bytes: &'a [u8],
+    places: &'a [usize; 32],
     run: &'a [u32; 32],
     rollback: &'a [u32; 32],
     waits: &'a [u8; 32],
     job: usize,
     t: u32,
 ) -> Course
-    requires { ⌜ Modest (seenWaits (now starts) (now values) (now slopes) (now counts) (now ends) (now run) (now rollback) (now waits)) ⌝ }
+    requires { ⌜ Modest (seenWaits (now bytes) (now places) (now run) (now rollback) (now waits)) ⌝ }
     requires { ⌜ (job < 32) × (t ≤ 4_000_000_000) ⌝ }
-    ensures { λ r. ⌜ r ≡ lossOf (seenWaits (now (starts .entry)) (now (values .entry)) (now (slopes .entry)) (now (counts .entry)) (now (ends .entry)) (now (run .entry)) (now (rollback .entry)) (now (waits .entry))) t job ⌝ }
+    ensures { λ r. ⌜ r ≡ lossOf (seenWaits (now (bytes .entry)) (now (places .entry)) (now (run .entry)) (now (rollback .entry)) (now (waits .entry))) t job ⌝ }
 {
     let time = run[job];
-    let worth = curve::worth_of(starts, values, slopes, counts, ends, job, t + time);
+    let worth = worth_of(bytes, places, job, t + time);
     let gain = worth as i32;
     Course { time, gain }
 }
@@ -54,11 +52,8 @@ fn lesser(job: u8, c: Course, b: Best) -> Best
 }
 
 fn offer<'a>(
-    starts: &'a [u32; 256],
-    values: &'a [i32; 256],
-    slopes: &'a [i16; 256],
-    counts: &'a [u8; 32],
-    ends: &'a [u32; 32],
+    bytes: &'a [u8],
+    places: &'a [usize; 32],
     run: &'a [u32; 32],
     rollback: &'a [u32; 32],
     waits: &'a [u8; 32],
@@ -68,26 +63,15 @@ fn offer<'a>(
     t: u32,
     b: Best,
 ) -> Best
-    requires { ⌜ Modest (seenWaits (now starts) (now values) (now slopes) (now counts) (now ends) (now run) (now rollback) (now waits)) ⌝ }
+    requires { ⌜ Modest (seenWaits (now bytes) (now places) (now run) (now rollback) (now waits)) ⌝ }
     requires { ⌜ (job < 32) × ((t ≤ 4_000_000_000) × (now circles ≡ circlesOf (waiting (now waits)))) ⌝ }
-    ensures { λ r. ⌜ r ≡ offer (seenWaits (now (starts .entry)) (now (values .entry)) (now (slopes .entry)) (now (counts .entry)) (now (ends .entry)) (now (run .entry)) (now (rollback .entry)) (now (waits .entry))) t low job b ⌝ }
+    ensures { λ r. ⌜ r ≡ offer (seenWaits (now (bytes .entry)) (now (places .entry)) (now (run .entry)) (now (rollback .entry)) (now (waits .entry))) t low job b ⌝ }
 {
     if circles[job] == low {
         if rollback[job] == NEVER {
             return b;
         }
-        let c = loss_of(
-            starts,
-            values,
-            slopes,
-            counts,
-            ends,
-            run,
-            rollback,
-            waits,
-            job,
-            t,
-        );
+        let c = loss_of(bytes, places, run, rollback, waits, job, t);
         return lesser(job as u8, c, b);
     }
     b
@@ -95,11 +79,8 @@ fn offer<'a>(
 
 // The victim of the circle whose lowest member is low.
 pub(crate) fn victim_of<'a>(
-    starts: &'a [u32; 256],
-    values: &'a [i32; 256],
-    slopes: &'a [i16; 256],
-    counts: &'a [u8; 32],
-    ends: &'a [u32; 32],
+    bytes: &'a [u8],
+    places: &'a [usize; 32],
     run: &'a [u32; 32],
     rollback: &'a [u32; 32],
     waits: &'a [u8; 32],
@@ -107,9 +88,9 @@ pub(crate) fn victim_of<'a>(
     low: u8,
     t: u32,
 ) -> Best
-    requires { ⌜ Modest (seenWaits (now starts) (now values) (now slopes) (now counts) (now ends) (now run) (now rollback) (now waits)) ⌝ }
+    requires { ⌜ Modest (seenWaits (now bytes) (now places) (now run) (now rollback) (now waits)) ⌝ }
     requires { ⌜ (t ≤ 4_000_000_000) × (now circles ≡ circlesOf (waiting (now waits))) ⌝ }
-    ensures { λ r. ⌜ r ≡ victimOf (seenWaits (now (starts .entry)) (now (values .entry)) (now (slopes .entry)) (now (counts .entry)) (now (ends .entry)) (now (run .entry)) (now (rollback .entry)) (now (waits .entry))) t low ⌝ }
+    ensures { λ r. ⌜ r ≡ victimOf (seenWaits (now (bytes .entry)) (now (places .entry)) (now (run .entry)) (now (rollback .entry)) (now (waits .entry))) t low ⌝ }
 {
     let none = Course { time: 0, gain: 0 };
     let mut b = Best {
@@ -119,21 +100,7 @@ pub(crate) fn victim_of<'a>(
     };
     let mut job: usize = 0;
     while job < 32 {
-        b = offer(
-            starts,
-            values,
-            slopes,
-            counts,
-            ends,
-            run,
-            rollback,
-            waits,
-            circles,
-            low,
-            job,
-            t,
-            b,
-        );
+        b = offer(bytes, places, run, rollback, waits, circles, low, job, t, b);
         job += 1;
     }
     b

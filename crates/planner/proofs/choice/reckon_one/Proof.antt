@@ -14,7 +14,7 @@ element-copy-out-pass : tie.Need-element-copy-out-pass
 element-copy-out-pass c = search needs
 
 pass-requires : tie.Need-pass-requires
-pass-requires c κs = let s = c .before .before .before in (s .pre .0 .undo (s .args .next), s .pre .1 .1)
+pass-requires c κs = let s = c .before .before .before in (s .before .pre .0 .undo (s .before .args .next), s .before .pre .1 .1)
 
 returns : tie.Need-returns
 unfolding reckonOne
@@ -29,8 +29,8 @@ element-copy-out-credit c = search needs
 credit-requires : tie.Need-credit-requires
 credit-requires c κs =
     let s = c .before .before .before in
-    let m = s .pre .0 in
-    ((m .hold (s .args .next), s .pre .1 .1), (s .pre .1 .0 .1 .1, m .worth (s .args .job) _))
+    let m = s .before .pre .0 in
+    ((s .before .pre .1 .0 .0, (m .hold (s .before .args .next), s .before .pre .1 .1)), (s .before .pre .1 .0 .1 .1, m .worth (s .before .args .job) _))
 
 returns-2 : tie.Need-returns-2
 unfolding reckonOne

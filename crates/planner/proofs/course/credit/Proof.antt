@@ -19,14 +19,14 @@ worth-of-requires c κs = search needs
 plus-requires : tie.Need-plus-requires
 plus-requires c κs =
     let s = c .before .before .before in
-    let f : SFits w32 (s .args .c .gain) = record { sfits = c .struct-told .given .1 .0 .1 } in
-    rw (toZ-ofZ f, toZ-ofZ {w = w64} {z = c .before .worth-of .result} (search needs), c .before .worth-of .ensures) (s .pre .0 .1 .gain, s .pre .1 .1)
+    let f : SFits w32 (s .before .args .c .gain) = record { sfits = c .struct-told .given .1 .0 .1 } in
+    rw (toZ-ofZ f, toZ-ofZ {w = w64} {z = c .before .worth-of .result} (search needs), c .before .worth-of .ensures) (s .before .pre .0 .1 .1 .gain, s .before .pre .1 .1)
 
 returns : tie.Need-returns
 unfolding credited
 returns c =
     let s = c .before .before .before .before in
-    let f : SFits w32 (s .args .c .gain) = record { sfits = c .before .struct-told .given .1 .0 .1 } in
+    let f : SFits w32 (s .before .args .c .gain) = record { sfits = c .before .struct-told .given .1 .0 .1 } in
     rw (toZ-ofZ {w = w32} {z = c .plus .result} (search needs), c .plus .ensures, toZ-ofZ f, toZ-ofZ {w = w64} {z = c .before .before .worth-of .result} (search needs), c .before .before .worth-of .ensures)
 
 pub credit-spec : {M : Type 1} → statement M

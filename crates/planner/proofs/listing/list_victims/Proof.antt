@@ -11,10 +11,10 @@ use Rattle.planner.proofs.listing.list_victims.Statement.{statement}
 use Rattle.planner.proofs.listing.list_victims.Tie as tie
 
 abbrev Inv-loop : tie.InvT-loop
-Inv-loop starts values slopes counts ends run rollback waits circles t v₀ job₀ v job = (job ≤ 32) × (v ≡ listedTo (seenWaits starts values slopes counts ends run rollback waits) t job)
+Inv-loop bytes places run rollback waits circles t v₀ job₀ v job = (job ≤ 32) × (v ≡ listedTo (seenWaits bytes places run rollback waits) t job)
 
 abbrev μ-loop : tie.MeasureT-loop
-μ-loop starts values slopes counts ends run rollback waits circles t v₀ job₀ v job = 32 - job
+μ-loop bytes places run rollback waits circles t v₀ job₀ v job = 32 - job
 
 loop-holds : tie.Need-loop-holds Inv-loop μ-loop
 loop-holds c = (omega arith, listed-begin _ _)
@@ -44,7 +44,7 @@ loop-again c =
     let s = c .before .before .before .before in
     let l = c .before .before .before .loop in
     let h = c .before .before .loop-test .taken in
-    let circle = circle-at _ _ (s .pre .1 .1) h in (
+    let circle = circle-at _ _ (s .before .pre .1 .1) h in (
       omega arith,
       ⊎-elim
           (λ w. listed-more _ _ _ h (l .inv .1) (sym circle ∙ w .0 .taken) (w .1 .ensures) (w .3 ∙ w .2 .ensures))

@@ -13,7 +13,7 @@ lay-requires c κs = search needs
 victims-requires : tie.Need-victims-requires
 victims-requires c κs =
     let s = c .before .before .before .before .before in
-    (waits-modest (s .args .starts .now) (s .args .values .now) (s .args .slopes .now) (s .args .counts .now) (s .args .ends .now) (s .pre .0) (c .before .before .before .before .lay .ensures), omega (arith, s .pre .0 .now))
+    (waits-modest (s .before .args .bytes .now) (s .before .args .places .now) (s .before .pre .0) (c .before .before .before .before .lay .ensures), omega (arith, s .before .pre .0 .now))
 
 cast-refused-plan : tie.Need-cast-refused-plan
 cast-refused-plan c = search needs
@@ -24,23 +24,23 @@ refused-plan-requires c κs = search needs
 returns : tie.Need-returns
 returns c =
     let s = c .before .before .before .before .before .before .before .before .before .before in
-    let pay = paid (s .args .starts .now) (s .args .values .now) (s .args .slopes .now) (s .args .counts .now) (s .args .ends .now) in
-    let v = victims-are (s .args .starts .now) (s .args .values .now) (s .args .slopes .now) (s .args .counts .now) (s .args .ends .now) (s .pre .0) (c .before .before .before .before .before .before .before .before .before .lay .ensures) (c .before .before .before .before .victims .ensures) in
-    knotted pay (s .args .s) (s .args .t) v (s .args .limit) byDensity (c .before .before .if1 .taken) (c .refused-plan .ensures)
+    let pay = paid (s .before .args .bytes .now) (s .before .args .places .now) in
+    let v = victims-are (s .before .args .bytes .now) (s .before .args .places .now) (s .before .pre .0) (c .before .before .before .before .before .before .before .before .before .lay .ensures) (c .before .before .before .before .victims .ensures) in
+    knotted pay (s .before .args .s) (s .before .args .t) v (s .before .args .limit) byDensity (c .before .before .if1 .taken) (c .refused-plan .ensures)
 
 settle-requires : tie.Need-settle-requires
 settle-requires c κs =
     let s = c .before .before .before .before .before .before .before .before .before .before in
-    let pay = paid (s .args .starts .now) (s .args .values .now) (s .args .slopes .now) (s .args .counts .now) (s .args .ends .now) in
-    let v = victims-are (s .args .starts .now) (s .args .values .now) (s .args .slopes .now) (s .args .counts .now) (s .args .ends .now) (s .pre .0) (c .before .before .before .before .before .before .before .before .before .lay .ensures) (c .before .before .before .before .victims .ensures) in
-    victims-handed pay (s .args .s) (s .args .t) v
+    let pay = paid (s .before .args .bytes .now) (s .before .args .places .now) in
+    let v = victims-are (s .before .args .bytes .now) (s .before .args .places .now) (s .before .pre .0) (c .before .before .before .before .before .before .before .before .before .lay .ensures) (c .before .before .before .before .victims .ensures) in
+    victims-handed pay (s .before .args .s) (s .before .args .t) v
 
 rounds-requires : tie.Need-rounds-requires
 rounds-requires c κs =
     let s = c .before .before .before .before .before .before .before .before .before .before .before in
-    let pay = paid (s .args .starts .now) (s .args .values .now) (s .args .slopes .now) (s .args .counts .now) (s .args .ends .now) in
-    let v = victims-are (s .args .starts .now) (s .args .values .now) (s .args .slopes .now) (s .args .counts .now) (s .args .ends .now) (s .pre .0) (c .before .before .before .before .before .before .before .before .before .before .lay .ensures) (c .before .before .before .before .before .victims .ensures) in
-    ((settled-sane pay (s .args .s) (s .args .t) v (s .pre .0) (c .before .before .before .if1 .left) (c .settle .ensures), s .pre .0 .now), s .pre .1)
+    let pay = paid (s .before .args .bytes .now) (s .before .args .places .now) in
+    let v = victims-are (s .before .args .bytes .now) (s .before .args .places .now) (s .before .pre .0) (c .before .before .before .before .before .before .before .before .before .before .lay .ensures) (c .before .before .before .before .before .victims .ensures) in
+    ((settled-sane pay (s .before .args .s) (s .before .args .t) v (s .before .pre .0) (c .before .before .before .if1 .left) (c .settle .ensures), s .before .pre .0 .now), s .before .pre .1)
 
 plan-of-requires : tie.Need-plan-of-requires
 plan-of-requires c κs = search needs
@@ -48,9 +48,9 @@ plan-of-requires c κs = search needs
 returns-2 : tie.Need-returns-2
 returns-2 c =
     let s = c .before .before .before .before .before .before .before .before .before .before .before .before .before in
-    let pay = paid (s .args .starts .now) (s .args .values .now) (s .args .slopes .now) (s .args .counts .now) (s .args .ends .now) in
-    let v = victims-are (s .args .starts .now) (s .args .values .now) (s .args .slopes .now) (s .args .counts .now) (s .args .ends .now) (s .pre .0) (c .before .before .before .before .before .before .before .before .before .before .before .before .lay .ensures) (c .before .before .before .before .before .before .before .victims .ensures) in
-    planned-is pay (s .args .s) (s .args .t) v (s .pre .0) (c .before .before .before .before .before .if1 .left) (c .before .before .settle .ensures) (s .args .limit) byDensity (c .before .rounds .ensures) (c .plan-of .ensures)
+    let pay = paid (s .before .args .bytes .now) (s .before .args .places .now) in
+    let v = victims-are (s .before .args .bytes .now) (s .before .args .places .now) (s .before .pre .0) (c .before .before .before .before .before .before .before .before .before .before .before .before .lay .ensures) (c .before .before .before .before .before .before .before .victims .ensures) in
+    planned-is pay (s .before .args .s) (s .before .args .t) v (s .before .pre .0) (c .before .before .before .before .before .if1 .left) (c .before .before .settle .ensures) (s .before .args .limit) byDensity (c .before .rounds .ensures) (c .plan-of .ensures)
 
 pub answer-spec : {M : Type 1} → statement M
 answer-spec =

@@ -15,10 +15,12 @@ returns : tie.Need-returns
 returns c = refused (c .before .before .before .before .args .bytes .now) (c .before .before .open-book .ensures) (c .before .before .before .before .args .limit) byDensity (c .before .if1 .taken) (c .refused-plan .ensures)
 
 answer-requires : tie.Need-answer-requires
-answer-requires c κs = (taken-accepted (c .before .before .before .before .before .before .before .before .before .before .args .bytes .now) (c .before .before .before .before .before .before .before .before .open-book .ensures) (c .before .before .before .before .before .before .before .if1 .left), c .before .before .before .before .before .before .before .before .before .before .pre)
+answer-requires c κs = (taken-accepted (c .before .before .before .before .before .before .args .bytes .now) (c .before .before .before .before .open-book .ensures) (c .before .before .before .if1 .left), c .before .before .before .before .before .before .pre)
 
 returns-2 : tie.Need-returns-2
-returns-2 c = accepted (c .before .before .before .before .before .before .before .before .before .before .before .args .bytes .now) (c .before .before .before .before .before .before .before .before .before .open-book .ensures) (c .before .before .before .before .before .before .before .before .if1 .left) (c .before .before .before .before .before .before .before .before .before .before .before .args .limit) byDensity (c .answer .ensures)
+returns-2 c =
+    let a = c .before .before .before .before .before .before .before .args in
+    accepted (a .bytes .now) (c .before .before .before .before .before .open-book .ensures) (c .before .before .before .before .if1 .left) (a .limit) byDensity (c .answer .ensures)
 
 pub plan-in-spec : {M : Type 1} → statement M
 plan-in-spec =

@@ -18,21 +18,21 @@ wide-requires c κs = search needs
 group-requires : tie.Need-group-requires
 group-requires c κs =
     let s = c .before .before .before .before .before in
-    let a = s .args in
-    (s .pre .0, (last-below byDensity (seen (a .starts .now) (a .values .now) (a .slopes .now) (a .counts .now) (a .ends .now) (a .run .now) (a .rollback .now) (a .hold .now) (a .undo .now) (a .rolling .now) (a .left .now) (a .waits .now)) (a .t) (c .before .before .before .before .scan .ensures) (c .wide .ensures), s .pre .1))
+    let a = s .before .args in
+    (s .before .pre .0, (last-below byDensity (seen (a .bytes .now) (a .places .now) (a .run .now) (a .rollback .now) (a .hold .now) (a .undo .now) (a .rolling .now) (a .left .now) (a .waits .now)) (a .t) (c .before .before .before .before .scan .ensures) (c .wide .ensures), s .before .pre .1))
 
 returns : tie.Need-returns
 returns c =
-    let a = c .before .before .before .before .before .before .args in
-    best-found byDensity (seen (a .starts .now) (a .values .now) (a .slopes .now) (a .counts .now) (a .ends .now) (a .run .now) (a .rollback .now) (a .hold .now) (a .undo .now) (a .rolling .now) (a .left .now) (a .waits .now)) (a .t) (c .before .before .before .before .before .scan .ensures) (c .before .before .before .above-zero .ensures) (c .before .before .if1 .taken) (c .before .wide .ensures) (c .group .ensures (a .left .now))
+    let a = c .before .before .before .before .before .before .before .args in
+    best-found byDensity (seen (a .bytes .now) (a .places .now) (a .run .now) (a .rollback .now) (a .hold .now) (a .undo .now) (a .rolling .now) (a .left .now) (a .waits .now)) (a .t) (c .before .before .before .before .before .scan .ensures) (c .before .before .before .above-zero .ensures) (c .before .before .if1 .taken) (c .before .wide .ensures) (c .group .ensures (a .left .now))
 
 no-group-requires : tie.Need-no-group-requires
 no-group-requires c κs = search needs
 
 returns-2 : tie.Need-returns-2
 returns-2 c =
-    let a = c .before .before .before .before .before .args in
-    none-found byDensity (seen (a .starts .now) (a .values .now) (a .slopes .now) (a .counts .now) (a .ends .now) (a .run .now) (a .rollback .now) (a .hold .now) (a .undo .now) (a .rolling .now) (a .left .now) (a .waits .now)) (a .t) (c .before .before .before .before .scan .ensures) (c .before .before .above-zero .ensures) (c .before .if1 .left) (c .no-group .ensures)
+    let a = c .before .before .before .before .before .before .args in
+    none-found byDensity (seen (a .bytes .now) (a .places .now) (a .run .now) (a .rollback .now) (a .hold .now) (a .undo .now) (a .rolling .now) (a .left .now) (a .waits .now)) (a .t) (c .before .before .before .before .scan .ensures) (c .before .before .above-zero .ensures) (c .before .if1 .left) (c .no-group .ensures)
 
 pub round-spec : {M : Type 1} → statement M
 round-spec =

@@ -32,15 +32,15 @@ abbrev stageOf : State → List Part → ℕ → ℕ → ℕ → ℕ → Stage
 stageOf current plan count total moment i = record { state = current; parts = plan; count = count; rounds = i; total = toZ w32 total; moment = moment }
 
 abbrev Inv-loop : tie.InvT-loop
-Inv-loop starts values slopes counts ends t limit current₀ plan₀ count₀ total₀ moment₀ i₀ current plan count total moment i =
-    Rounding limit byDensity (paid starts values slopes counts ends) (rounds limit byDensity (paid starts values slopes counts ends) (current₀ .jobs) t) (stageOf current plan count total moment i) i
+Inv-loop bytes places t limit current₀ plan₀ count₀ total₀ moment₀ i₀ current plan count total moment i =
+    Rounding limit byDensity (paid bytes places) (rounds limit byDensity (paid bytes places) (current₀ .jobs) t) (stageOf current plan count total moment i) i
 
 abbrev μ-loop : tie.MeasureT-loop
-μ-loop starts values slopes counts ends t limit current₀ plan₀ count₀ total₀ moment₀ i₀ current plan count total moment i = limit - i
+μ-loop bytes places t limit current₀ plan₀ count₀ total₀ moment₀ i₀ current plan count total moment i = limit - i
 
 loop-holds : tie.Need-loop-holds Inv-loop μ-loop
 unfolding opening padded
-loop-holds c = rounding-begin (c .pre .0 .0) (c .pre .0 .1)
+loop-holds c = rounding-begin (c .before .pre .0 .0) (c .before .pre .0 .1)
 
 -- a turn of the loop: the lent curves, the stage that it starts from, and that a round may start there
 module _ (turn : tie.In-loop Inv-loop μ-loop) where
@@ -48,7 +48,7 @@ module _ (turn : tie.In-loop Inv-loop μ-loop) where
   head = turn .before
 
   abbrev pay : Pay
-  pay = paid (head .before .args .starts .now) (head .before .args .values .now) (head .before .args .slopes .now) (head .before .args .counts .now) (head .before .args .ends .now)
+  pay = paid (head .before .before .args .bytes .now) (head .before .before .args .places .now)
 
   abbrev stage : Stage
   stage = stageOf (head .loop .current) (head .loop .plan) (head .loop .count) (head .loop .total) (head .loop .moment) (head .loop .i)
@@ -62,8 +62,8 @@ lay-requires c κs = search needs
 round-requires : tie.Need-round-requires Inv-loop μ-loop
 round-requires c κs =
     let turn = c .before .before .before .before .before .before .before .before .before in
-    let a = turn .before .before .args in
-    (round-modest (a .starts .now) (a .values .now) (a .slopes .now) (a .counts .now) (a .ends .now) (fits turn .jobs) (c .before .before .before .before .before .before .before .before .lay .ensures), fitting-moment (fits turn))
+    let a = turn .before .before .before .args in
+    (round-modest (a .bytes .now) (a .places .now) (fits turn .jobs) (c .before .before .before .before .before .before .before .before .lay .ensures), fitting-moment (fits turn))
 
 -- after a round is made, the turn that it is in
 module _ (c : tie.After-round Inv-loop μ-loop) where
@@ -72,8 +72,8 @@ module _ (c : tie.After-round Inv-loop μ-loop) where
 
   same-group : c .round .result ≡ laidOut (roundAt byDensity (pay turn) (stage turn))
   same-group =
-      let a = turn .before .before .args in
-      round-found (a .starts .now) (a .values .now) (a .slopes .now) (a .counts .now) (a .ends .now) (fits turn .jobs) (c .before .before .before .before .before .before .before .before .before .lay .ensures) byDensity (stage turn .moment) (c .round .ensures)
+      let a = turn .before .before .before .args in
+      round-found (a .bytes .now) (a .places .now) (fits turn .jobs) (c .before .before .before .before .before .before .before .before .before .lay .ensures) byDensity (stage turn .moment) (c .round .ensures)
 
 -- where it has parts, they can be joined to the plan
 module _ (c : tie.Then1 Inv-loop μ-loop) where
@@ -108,7 +108,7 @@ add-moment : tie.Need-add-moment Inv-loop μ-loop
 add-moment c = let j = can-join (appending (c .before .before)) in omega (arith, j .moment, j .time)
 
 add-i : tie.Need-add-i Inv-loop μ-loop
-add-i c = let h = from (appending (c .before .before)) in omega (arith, h .loop-test .taken, h .before .before .pre .1)
+add-i c = let h = from (appending (c .before .before)) in omega (arith, h .loop-test .taken, h .before .before .before .pre .1)
 
 -- what the parts and the numbers make of the stage, whatever is made of the state
 module _ (c : tie.After-struct-known Inv-loop μ-loop) where

@@ -13,13 +13,13 @@ element-copy-out-if1 : tie.Need-element-copy-out-if1
 element-copy-out-if1 c = search needs
 
 follow-requires : tie.Need-follow-requires
-follow-requires c κs = (c .before .before .before .pre .1 .0, (refl, zeros-below 32 32 (omega arith)))
+follow-requires c κs = (c .before .before .before .before .pre .1 .0, (refl, zeros-below 32 32 (omega arith)))
 
 score-requires : tie.Need-score-requires
 score-requires c κs =
     let s = c .before .before .before .before .before in
     let f = c .before .follow .ensures in
-    (s .pre .0, (f .below, (f .low, s .pre .1 .1)))
+    (s .before .pre .0, (f .below, (f .low, s .before .pre .1 .1)))
 
 cast-better : tie.Need-cast-better
 cast-better c = search needs

@@ -9,16 +9,16 @@ use Rattle.planner.proofs.scan.scan.Statement.{statement}
 use Rattle.planner.proofs.scan.scan.Tie as tie
 
 abbrev Inv-loop : tie.InvT-loop
-Inv-loop starts values slopes counts ends run rollback hold undo rolling left waits t b₀ job₀ b job = Counting (consider byDensity (seen starts values slopes counts ends run rollback hold undo rolling left waits) t) 32 b₀ b job
+Inv-loop bytes places run rollback hold undo rolling left waits t b₀ job₀ b job = Counting (consider byDensity (seen bytes places run rollback hold undo rolling left waits) t) 32 b₀ b job
 
 abbrev μ-loop : tie.MeasureT-loop
-μ-loop starts values slopes counts ends run rollback hold undo rolling left waits t b₀ job₀ b job = 32 - job
+μ-loop bytes places run rollback hold undo rolling left waits t b₀ job₀ b job = 32 - job
 
 loop-holds : tie.Need-loop-holds Inv-loop μ-loop
 loop-holds c = count-begin
 
 consider-requires : tie.Need-consider-requires Inv-loop μ-loop
-consider-requires c κs = (c .before .before .pre .0, (c .loop-test .taken, c .before .before .pre .1))
+consider-requires c κs = (c .before .before .before .pre .0, (c .loop-test .taken, c .before .before .before .pre .1))
 
 add-job : tie.Need-add-job Inv-loop μ-loop
 add-job c = search needs

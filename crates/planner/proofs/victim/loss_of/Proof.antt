@@ -18,7 +18,7 @@ element-copy-out-time : tie.Need-element-copy-out-time
 element-copy-out-time c = search needs
 
 add-worth-of : tie.Need-add-worth-of
-add-worth-of c = let s = c .before in omega (arith, s .pre .0 .run (s .args .job))
+add-worth-of c = let s = c .before in omega (arith, s .before .pre .0 .run (s .before .args .job))
 
 worth-of-requires : tie.Need-worth-of-requires
 worth-of-requires c κs = search needs
@@ -26,7 +26,7 @@ worth-of-requires c κs = search needs
 fits : (c : tie.After-worth-of) → SFits w32 (c .worth-of .result)
 fits c =
     let s = c .before .before in
-    let most : natAbs (c .worth-of .result) ≤ 1000000 = rw (c .worth-of .ensures) (s .pre .0 .worth (s .args .job) _) in
+    let most : natAbs (c .worth-of .result) ≤ 1000000 = rw (c .worth-of .ensures) (s .before .pre .0 .worth (s .before .args .job) _) in
     fits-abs _ (omega arith)
 
 cast-gain : tie.Need-cast-gain

@@ -18,8 +18,8 @@ mul-if2 c = search needs
 element-copy-out-if2 : tie.Need-element-copy-out-if2
 element-copy-out-if2 c = search needs
 
-circle : (s : tie.Start) → getD (s .args .circles .now) (s .args .job) 0 ≡ circleOf (waiting (s .args .waits .now)) (s .args .job)
-circle s = circle-at _ _ (s .pre .1 .1 .1) (s .pre .1 .0)
+circle : (s : tie.After-shared-slice-known) → getD (s .before .args .circles .now) (s .before .args .job) 0 ≡ circleOf (waiting (s .before .args .waits .now)) (s .before .args .job)
+circle s = circle-at _ _ (s .before .pre .1 .1 .1) (s .before .pre .1 .0)
 
 returns : tie.Need-returns
 returns c =

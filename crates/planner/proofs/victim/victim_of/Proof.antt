@@ -8,11 +8,11 @@ use Rattle.planner.proofs.victim.victim_of.Statement.{statement}
 use Rattle.planner.proofs.victim.victim_of.Tie as tie
 
 abbrev Inv-loop : tie.InvT-loop
-Inv-loop starts values slopes counts ends run rollback waits circles low t b₀ job₀ b job =
-    Counting (offer (seenWaits starts values slopes counts ends run rollback waits) t low) 32 b₀ b job
+Inv-loop bytes places run rollback waits circles low t b₀ job₀ b job =
+    Counting (offer (seenWaits bytes places run rollback waits) t low) 32 b₀ b job
 
 abbrev μ-loop : tie.MeasureT-loop
-μ-loop starts values slopes counts ends run rollback waits circles low t b₀ job₀ b job = 32 - job
+μ-loop bytes places run rollback waits circles low t b₀ job₀ b job = 32 - job
 
 loop-holds : tie.Need-loop-holds Inv-loop μ-loop
 loop-holds c = count-begin
