@@ -1,6 +1,6 @@
 /* The planner's calls for C. Link target/staticlib/libilhuepatl.a, which `rt staticlib ilhuepatl` writes.
    Every call ends, keeps nothing, allocates nothing and asks nothing of its caller but that the lengths are true.
-   Book and output may be any bytes of any length; they must not overlap. */
+   Book, curve and output may be any bytes of any length; book and output must not overlap. */
 #ifndef ILHUEPATL_H
 #define ILHUEPATL_H
 
@@ -15,7 +15,8 @@ extern "C" {
 #define ILHUEPATL_NUMBER(verdict) ((unsigned)((verdict) >> 32))
 #define ILHUEPATL_PLACE(verdict) ((uint32_t)(verdict))
 
-/* The numbers of a refusal. The place is a byte offset in the book; for KNOT it is a job number. */
+/* The numbers of a refusal. The place is a byte offset in the book, or in the curve that was asked about; for KNOT it is a
+   job number. */
 enum {
     ILHUEPATL_ROOM = 1,
     ILHUEPATL_SIZE = 2,
@@ -49,6 +50,17 @@ uint64_t ilhuepatl_first(const uint8_t *book, size_t book_length);
 #define ILHUEPATL_FIRST_JOB(word) ((unsigned)((word) >> 24 & 255))
 #define ILHUEPATL_FIRST_ROLLBACK(word) ((unsigned)((word) >> 16 & 255))
 #define ILHUEPATL_FIRST_TIME(word) ((unsigned)((word) & 65535))
+
+/* What finishing at moment t is worth by one curve, asked where it stands: its bytes from the piece count to the
+   termination, and nothing after them. At byte 10 of a job's record stands its held count h; its curve begins at byte
+   11 + 5 x h and ends where the record does. The worth is 0 before the first start and after the termination, at which the
+   curve still holds. Below 2^32 the number is the worth in 32 bits of two's complement, -1,000,000 to 1,000,000; 2^31 is
+   never given today and is kept free. 2^32 and above is a refusal: CUT, RANGE, or TAIL for bytes after the termination,
+   with the place counted from the curve's first byte. */
+uint64_t ilhuepatl_worth(const uint8_t *curve, size_t curve_length, uint32_t t);
+
+/* Of such a number, if it is no refusal: the worth. */
+#define ILHUEPATL_WORTH(word) ((int32_t)((int64_t)((word) ^ 2147483648u) - 2147483648))
 
 #ifdef __cplusplus
 }

@@ -1,5 +1,5 @@
-/* Asks for the first part of the book in a file, then plans all of it and prints the answer's bytes: how a kernel calls the
-   planner. */
+/* Asks for the first part of the book in a file and for the worth of a curve in it, then plans all of it and prints the
+   answer's bytes: how a kernel calls the planner. */
 #include <stdio.h>
 
 #include "ilhuepatl.h"
@@ -19,6 +19,24 @@ static void print_first(uint64_t first)
                ILHUEPATL_FIRST_ROLLBACK(first) ? "rolls back" : "runs", ILHUEPATL_FIRST_TIME(first));
 }
 
+/* What job 0 would earn if it finished now. The book was accepted, so the record question is not refused. */
+static void print_worth(const uint8_t *book, size_t length)
+{
+    uint32_t now = (uint32_t)book[5] << 24 | (uint32_t)book[6] << 16 | (uint32_t)book[7] << 8 | book[8];
+    uint64_t record = ilhuepatl_record(book, length, 0);
+    if (record == 0) {
+        printf("worth: no job 0\n");
+        return;
+    }
+    size_t start = record >> 16, end = record & 65535;
+    size_t curve = start + 11 + 5 * (size_t)book[start + 10];
+    uint64_t worth = ilhuepatl_worth(book + curve, end - curve, now);
+    if (ILHUEPATL_NUMBER(worth) != 0)
+        printf("worth: refused %u at %lu\n", ILHUEPATL_NUMBER(worth), (unsigned long)ILHUEPATL_PLACE(worth));
+    else
+        printf("worth: %ld if job 0 finished now\n", (long)ILHUEPATL_WORTH(worth));
+}
+
 int main(int argc, char **argv)
 {
     static uint8_t book[65536];
@@ -36,6 +54,7 @@ int main(int argc, char **argv)
     if (ILHUEPATL_NUMBER(first) != 0)
         return refused(first);
     print_first(first);
+    print_worth(book, length);
 
     uint64_t verdict = ilhuepatl_plan(book, length, output, sizeof output);
     if (verdict != 0)

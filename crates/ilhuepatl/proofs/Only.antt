@@ -19,6 +19,7 @@ use Rattle.ilhuepatl.proofs.calls.plan_bytes.Reads as plan-bytes
 use Rattle.ilhuepatl.proofs.calls.ilhuepatl_plan.Reads as ilhuepatl-plan
 use Rattle.ilhuepatl.proofs.calls.ilhuepatl_record.Reads as ilhuepatl-record
 use Rattle.ilhuepatl.proofs.calls.ilhuepatl_first.Reads as ilhuepatl-first
+use Rattle.ilhuepatl.proofs.calls.ilhuepatl_worth.Reads as ilhuepatl-worth
 use Rattle.ilhuepatl.proofs.row.plan_row as plan-row
 use Rattle.ilhuepatl.proofs.row.plan_parts.Reads as plan-parts
 
@@ -33,6 +34,9 @@ ilhuepatl-record-only lifetimes a r r′ s s′ p q = p ∙ sym q
 
 ilhuepatl-first-only : (lifetimes : Lfts 1) → Only (ilhuepatl-first.Post lifetimes)
 ilhuepatl-first-only lifetimes a r r′ s s′ p q = p ∙ sym q
+
+ilhuepatl-worth-only : (lifetimes : Lfts 1) → Only (ilhuepatl-worth.Post lifetimes)
+ilhuepatl-worth-only lifetimes a r r′ s s′ p q = p ∙ sym q
 
 -- a walk by hand has no reading of its contract, so this is what `plan_row` promises, and `plan-row-says` that its contract says just this
 abbrev RowPost : (lifetimes : Lfts 2) → Args plan-row.signature lifetimes → RowAnswer → AtExit plan-row.ended lifetimes → Type 0

@@ -7,12 +7,13 @@ use lib.ListN.{length}
 use Rattle.laws.specs.Stores.{over}
 use Rattle.cursor.specs.Refusal.{ROOM}
 use Rattle.book.specs.declared.question.Found.{Found}
+use Rattle.book.specs.declared.worth.CurveWorth.{CurveWorth}
 use Rattle.gus.specs.declared.Part.{Part}
 use Rattle.planner.specs.declared.Planned.{Planned}
 use Rattle.planner.specs.declared.FirstPart.{FirstPart}
 use Rattle.planner.specs.Planned.{plannedOf}
 use Rattle.ilhuepatl.specs.declared.Verdict.{Verdict}
-use Rattle.ilhuepatl.specs.Answer.{answerBytes}
+use Rattle.ilhuepatl.specs.Answer.{bits, answerBytes}
 
 pub record Outcome : Type 0 where
   pub verdict : Verdict
@@ -59,4 +60,13 @@ firstWord f =
     elim (ltb 0 (f .number)) [
       | true ↦ word (verdictOf (f .number) (f .place))
       | false ↦ elim (f .some) [ true ↦ partWord (f .part) | false ↦ 0 ]
+    ]
+
+-- a curve's worth in one number, for C: a refusal as above, or the worth in 32 bits. A worth is at most a million away from 0, so that
+-- most numbers below 2 ^ 32 are no worth's
+unfoldable pub worthWord : CurveWorth → ℕ
+worthWord w =
+    elim (ltb 0 (w .number)) [
+      | true ↦ word (verdictOf (w .number) (w .place))
+      | false ↦ bits (w .worth)
     ]

@@ -1,11 +1,13 @@
 // The public calls: the plan of a book as bytes in a lent output, and the calls that C links.
 ghost use mathlib.Core.Path.{_≡_};
 ghost use Rattle.book.specs.Question.{foundIn};
+ghost use Rattle.book.specs.CurveWorth.{curveWorth};
 ghost use Rattle.planner.specs.Planned.{plannedOf};
 ghost use Rattle.planner.specs.First.{firstIn};
-ghost use Rattle.ilhuepatl.specs.Calls.{verdictOf, outcomeOf, word, recordWord, firstWord};
+ghost use Rattle.ilhuepatl.specs.Calls.{verdictOf, outcomeOf, word, recordWord, firstWord, worthWord};
 use crate::Verdict;
 use crate::answer::put_answer;
+use crate::number::bits_of;
 use crate::part::part_word;
 use cursor::field::ROOM;
 
@@ -71,4 +73,16 @@ pub extern "C" fn ilhuepatl_first(book: &[u8]) -> u64
         return part_word(part);
     }
     0
+}
+
+// The worth of a curve for C: a refusal as above, CUT, RANGE or TAIL; else the worth in the 32 bits of two's complement.
+#[no_mangle]
+pub extern "C" fn ilhuepatl_worth(curve: &[u8], t: u32) -> u64
+    ensures { λ r. ⌜ r ≡ worthWord (curveWorth (now (curve .entry)) t) ⌝ }
+{
+    let w = book::worth::worth_of_curve(curve, t);
+    if 0 < w.number {
+        return word_of(w.number, w.place);
+    }
+    bits_of(w.worth as i32) as u64
 }

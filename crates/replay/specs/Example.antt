@@ -16,7 +16,8 @@ use Rattle.job.specs.Job.{granted, ran, rolledBack}
 use Rattle.book.specs.declared.Entry.{Entry}
 use Rattle.book.specs.declared.Book.{Book}
 use Rattle.cursor.specs.Field.{fieldOf, ruleOf, readAt, judged, valueAt}
-use Rattle.book.specs.Rules.{rollbackOk, requestOk, ifRequested, leastRollback, modeOk, signedOf, aroundOk, lineOk}
+use Rattle.curve.specs.Layout.{signedOf}
+use Rattle.book.specs.Rules.{rollbackOk, requestOk, ifRequested, leastRollback, modeOk, aroundOk, lineOk}
 use Rattle.cursor.specs.Header.{headerOf}
 use Rattle.book.specs.Format.{noEntry, noRecord, noSpan, bookOf, refusedBook, acceptedBook, recordsRead, noRecords, recordNext, recordRead, tailRead, rollbackRead, requestRead, requestedResource, requestedRollback, heldRead, entryNext, entryRead, heldResource, unheldRead, curveRead, piecesRead, pieceNext, pieceRead, startRead, signedRead, endRead}
 use Rattle.gus.specs.State.{afterAll}

@@ -27,4 +27,5 @@ pub mod Refuses
 pub mod Asked
 pub mod First
 pub mod Words
+pub mod WorthWord
 pub mod Example

@@ -8,7 +8,7 @@ use lib.Dec.{eqb}
 use lib.IntN.{pos, negsuc}
 use lib.ListN.{take, replicate}
 use Rattle.cursor.specs.Field.{valueAt}
-use Rattle.book.specs.Rules.{signedOf}
+use Rattle.curve.specs.Layout.{signedOf}
 use Rattle.gus.specs.declared.Part.{Part}
 use Rattle.gus.specs.Group.{partOf}
 use Rattle.gus.specs.Plan.{Answer}

@@ -12,7 +12,7 @@ use lib.Seq.{getD-append-add}
 use borrow.Author.Tests.{lt-ltb, le-ltb}
 use Rattle.laws.specs.Signed.{up, dn, same, up-sub, dn-sub}
 use Rattle.cursor.specs.Field.{valueAt}
-use Rattle.book.specs.Rules.{signedOf}
+use Rattle.curve.specs.Layout.{signedOf}
 use Rattle.gus.specs.declared.Part.{Part}
 use Rattle.planner.specs.LaidOut.{emptyPart}
 use Rattle.ilhuepatl.specs.Answer.{two, four, bits, partBytes, partsBytes}

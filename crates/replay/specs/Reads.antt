@@ -9,7 +9,7 @@ use Rattle.laws.specs.Stores.{over}
 use Rattle.laws.specs.Fill.{padded}
 use Rattle.laws.specs.Signed.{up, dn}
 use Rattle.cursor.specs.Field.{valueAt}
-use Rattle.book.specs.Rules.{signedOf}
+use Rattle.curve.specs.Layout.{signedOf}
 use Rattle.gus.specs.Plan.{Answer}
 use Rattle.planner.specs.LaidOut.{emptyPart}
 use Rattle.planner.specs.Planned.{laidPlan}

@@ -33,11 +33,11 @@ use Rattle.replay.specs.Refuses.{KnottedIn, InTheWay, Clear, Given, smal
 use Rattle.replay.specs.First.{FirstGiven, broken, knotted, empty, first, first-given}
 use Rattle.replay.specs.Asked.{Asked, refused, there, missing, asked}
 
-word-number : (v : Verdict) → word v / 4294967296 ≡ v .number
+pub word-number : (v : Verdict) → word v / 4294967296 ≡ v .number
 unfolding word
 word-number v = omega arith
 
-word-place : (v : Verdict) → v .place < 4294967296 → word v % 4294967296 ≡ v .place
+pub word-place : (v : Verdict) → v .place < 4294967296 → word v % 4294967296 ≡ v .place
 unfolding word
 word-place v h = omega arith
 

@@ -10,7 +10,8 @@ use Rattle.curve.specs.Worth.{worthIn, worthAt}
 use Rattle.curve.specs.Density.{denserThan}
 use Rattle.job.specs.Job.{granted, ran, rolledBack}
 use Rattle.cursor.specs.Field.{valueAt, judged, readAt, fieldOf, ruleOf}
-use Rattle.book.specs.Rules.{rollbackOk, requestOk, ifRequested, leastRollback, modeOk, signedOf, aroundOk, lineOk}
+use Rattle.curve.specs.Layout.{signedOf}
+use Rattle.book.specs.Rules.{rollbackOk, requestOk, ifRequested, leastRollback, modeOk, aroundOk, lineOk}
 use Rattle.cursor.specs.Header.{headerOf}
 use Rattle.book.specs.Format.{rollbackRead, requestedResource, requestedRollback, requestRead, unheldRead, heldResource, entryRead, entryNext, heldRead, startRead, signedRead, pieceRead, pieceNext, piecesRead, endRead, curveRead, recordRead, recordNext, noRecords, recordsRead, tailRead, acceptedBook, refusedBook, bookOf}
 use Rattle.gus.specs.State.{afterAll}
