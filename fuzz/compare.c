@@ -91,6 +91,31 @@ static void plans(const uint8_t *lent, const uint8_t *book, size_t length, size_
                length);
 }
 
+static uint32_t field(const uint8_t *bytes) {
+    return (uint32_t)bytes[0] << 24 | (uint32_t)bytes[1] << 16 | (uint32_t)bytes[2] << 8 | bytes[3];
+}
+
+/* The worth of the bytes from a place up to an end, at and beside the first
+   start and the termination. Where the end is the book's, so is the fence. */
+static void worths(const uint8_t *lent, const uint8_t *book, size_t length, size_t place, size_t end) {
+    size_t size = end - place;
+    uint32_t first = size < 5 ? 0 : field(book + place + 1);
+    uint32_t last = size < 4 ? 0 : field(book + end - 4);
+    uint32_t moments[] = {first - 1, first, first + 1, last - 1, last, last + 1};
+    for (size_t at = 0; at < sizeof moments / sizeof *moments; at++) {
+        same_number("worth of the curve at byte", place, second_worth(book + place, size, moments[at]),
+                    ilhuepatl_worth(lent + place, size, moments[at]), book, length);
+    }
+}
+
+/* A job's curve where it stands, and with all that comes after it. */
+static void curve(const uint8_t *lent, const uint8_t *book, size_t length, uint64_t record) {
+    size_t start = record >> 16, end = record & 65535;
+    size_t place = start + 11 + 5 * (size_t)book[start + 10];
+    worths(lent, book, length, place, end);
+    worths(lent, book, length, place, length);
+}
+
 static void one(const uint8_t *book, size_t length) {
     uint8_t *lent = book_room.fence - length;
     memcpy(lent, book, length);
@@ -102,9 +127,14 @@ static void one(const uint8_t *book, size_t length) {
     size_t count = length > 3 && book[3] <= 32 ? book[3] : 0;
     for (size_t job = 0; job <= count + 2; job++) {
         size_t number = job <= count + 1 ? job : 255;
-        same_number("record of job", number, second_record(book, length, number),
-                    ilhuepatl_record(lent, length, number), book, length);
+        uint64_t record = second_record(book, length, number);
+        same_number("record of job", number, record, ilhuepatl_record(lent, length, number), book,
+                    length);
+        if (record != 0 && record >> 32 == 0) {
+            curve(lent, book, length, record);
+        }
     }
+    worths(lent, book, length, 0, length);
     same_number("first part, bytes of book", length, second_first(book, length),
                 ilhuepatl_first(lent, length), book, length);
     same_bytes("the lent book after all calls", 0, book, lent, length, book, length);

@@ -1,7 +1,8 @@
 //! No time is worth printing for a wrong answer: the planners must agree first.
 
 use crate::books::Set;
-use crate::calls::{call, Call, Planner, Question, QUESTIONS};
+use crate::calls::{call, Call, Planner, Question, OF_BOOKS, OF_CURVES};
+use crate::curves;
 use beside::hex::hex;
 use second::answer::MOST_BYTES;
 use second::make;
@@ -10,30 +11,40 @@ use second::make;
 /// the benchmark's own.
 pub const RANDOM_BOOKS: u64 = 100_000;
 
-pub fn check(sets: &[Set]) -> Result<(), String> {
-    for book in sets.iter().flat_map(|set| &set.books) {
+pub fn check(books: &[Set], curves: &[Set]) -> Result<(), String> {
+    for book in books.iter().flat_map(|set| &set.items) {
         // The time of a refusal would say nothing.
         second::plan(book)
             .map_err(|refusal| format!("a benchmark book is refused: {refusal:?}"))?;
-        all_agree(book)?;
+        all_agree(&OF_BOOKS, book)?;
+    }
+    for item in curves.iter().flat_map(|set| &set.items) {
+        let (t, curve) = curves::taken_apart(item);
+        second::curve_worth(curve, t)
+            .map_err(|refusal| format!("a benchmark curve is refused: {refusal:?}"))?;
+        all_agree(&OF_CURVES, item)?;
     }
     for seed in 0..RANDOM_BOOKS {
-        all_agree(&match seed % 10 {
+        let book = match seed % 10 {
             0..=6 => make::valid(seed),
             7..=8 => make::damaged(seed),
             _ => make::noise(seed),
-        })?;
+        };
+        all_agree(&OF_BOOKS, &book)?;
+        for item in curves::in_book(&book) {
+            all_agree(&OF_CURVES, &item)?;
+        }
     }
     Ok(())
 }
 
-fn all_agree(book: &[u8]) -> Result<(), String> {
-    for question in QUESTIONS {
-        let second = answered(call((Planner::Second, question)), book);
+fn all_agree(questions: &[Question], item: &[u8]) -> Result<(), String> {
+    for &question in questions {
+        let second = answered(call((Planner::Second, question)), item);
         for planner in [Planner::Plain, Planner::Proved] {
-            let other = answered(call((planner, question)), book);
+            let other = answered(call((planner, question)), item);
             if other != second {
-                return Err(difference(question, planner, book, &second, &other));
+                return Err(difference(question, planner, item, &second, &other));
             }
         }
     }
@@ -43,26 +54,26 @@ fn all_agree(book: &[u8]) -> Result<(), String> {
 /// A call's number, and the output that it left.
 type Answered = (u64, [u8; MOST_BYTES]);
 
-fn answered(call: Call, book: &[u8]) -> Answered {
+fn answered(call: Call, item: &[u8]) -> Answered {
     let mut out = [0xA5; MOST_BYTES];
-    (call(book, &mut out), out)
+    (call(item, &mut out), out)
 }
 
 fn difference(
     question: Question,
     planner: Planner,
-    book: &[u8],
+    item: &[u8],
     second: &Answered,
     other: &Answered,
 ) -> String {
     let name = planner.name();
     format!(
-        "the {} differs\nSecond: {} {}\n{name}: {} {}\nbook: {}",
+        "the {} differs\nSecond: {} {}\n{name}: {} {}\nasked: {}",
         question.name(),
         question.in_words(second.0),
         hex(&second.1),
         question.in_words(other.0),
         hex(&other.1),
-        hex(book)
+        hex(item)
     )
 }

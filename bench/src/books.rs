@@ -5,13 +5,15 @@ use second::make::{bytes_of, Dice};
 
 /// How many books there are of each kind: a processor soon knows one book by
 /// heart, so each time is the mean over several.
-const OF_A_KIND: u64 = 16;
+pub const OF_A_KIND: u64 = 16;
 
-/// A row of the table.
+/// A row of a table.
 pub struct Set {
     pub name: &'static str,
-    pub jobs: usize,
-    pub books: Vec<Vec<u8>>,
+    /// The jobs of each book, or the pieces of each curve.
+    pub size: usize,
+    /// The bytes that each call gets: a book, or what `curves` makes.
+    pub items: Vec<Vec<u8>>,
 }
 
 #[derive(Clone, Copy)]
@@ -40,8 +42,11 @@ pub fn sets() -> Vec<Set> {
 }
 
 fn set(name: &'static str, shape: Shape, jobs: usize) -> Set {
-    let books = (0..OF_A_KIND).map(|seed| book(shape, jobs, seed)).collect();
-    Set { name, jobs, books }
+    Set {
+        name,
+        size: jobs,
+        items: (0..OF_A_KIND).map(|seed| book(shape, jobs, seed)).collect(),
+    }
 }
 
 fn book(shape: Shape, count: usize, seed: u64) -> Vec<u8> {

@@ -5,23 +5,35 @@ mod agree;
 mod books;
 mod calls;
 mod clock;
+mod curves;
 mod plain;
 mod stack;
 mod table;
 mod time;
 
+use books::Set;
+use calls::{Question, OF_BOOKS, OF_CURVES};
+use time::Times;
+
 fn main() {
-    let sets = books::sets();
+    let (books, curves) = (books::sets(), curves::sets());
     eprintln!("comparing the answers first");
-    if let Err(difference) = agree::check(&sets) {
+    if let Err(difference) = agree::check(&books, &curves) {
         eprintln!("bench: nothing is printed, since {difference}");
         std::process::exit(1);
     }
     eprintln!("measuring");
-    let times: Vec<time::Times> = sets.iter().map(time::measure).collect();
+    let times = measured(&books, &OF_BOOKS);
+    let curve_times = measured(&curves, &OF_CURVES);
     table::head();
-    table::plans(&sets, &times);
-    table::first_parts(&sets, &times);
+    table::plans(&books, &times);
+    table::first_parts(&books, &times);
+    table::worths(&curves, &curve_times);
     table::notes();
-    table::stack(&sets);
+    table::stack(&books, &curves);
+}
+
+fn measured(sets: &[Set], questions: &[Question]) -> Vec<Times> {
+    let measure = |set| time::measure(set, questions);
+    sets.iter().map(measure).collect()
 }

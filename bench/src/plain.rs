@@ -9,7 +9,7 @@ mod parts;
 mod read;
 mod rounds;
 
-use book::Book;
+use book::{Book, Curve};
 use circles::Victims;
 
 /// As the proved planner's plan call.
@@ -69,6 +69,14 @@ pub fn record(bytes: &[u8], job: usize) -> u64 {
             (u64::from(book.first[job]) << 16) + u64::from(book.first[job + 1])
         }
         Ok(()) => 0,
+    }
+}
+
+/// As the proved planner's worth call.
+pub fn worth(bytes: &[u8], moment: u32) -> u64 {
+    match Curve::alone(bytes) {
+        Ok(curve) => u64::from(curve.worth(moment) as u32),
+        Err(refusal) => refusal,
     }
 }
 

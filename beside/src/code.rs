@@ -43,6 +43,17 @@ fn of_part(part: &Part) -> u64 {
     ((part.job as u64) << 24) + (u64::from(part.rollback) << 16) + u64::from(time)
 }
 
+/// What the worth call must give: the worth as the 32 bits of two's complement.
+pub fn of_worth(worth: &Result<i64, Refusal>) -> u64 {
+    match worth {
+        Ok(worth) => {
+            let worth = i32::try_from(*worth).expect("a worth is at most 1,000,000 from zero");
+            u64::from(worth as u32)
+        }
+        Err(refusal) => of_refusal(*refusal),
+    }
+}
+
 /// A plan call's number in words.
 pub fn plan_in_words(code: u64) -> String {
     match code {
@@ -68,6 +79,14 @@ pub fn first_in_words(code: u64) -> String {
         0 => "nothing".to_string(),
         1..=0xFFFF_FFFF => format!("job {job} in mode {mode} for {time} ms"),
         _ => refused_in_words(code),
+    }
+}
+
+/// A worth call's number in words.
+pub fn worth_in_words(code: u64) -> String {
+    match u32::try_from(code) {
+        Ok(bits) => format!("worth {}", bits as i32),
+        Err(_) => refused_in_words(code),
     }
 }
 
@@ -104,5 +123,25 @@ mod tests {
         assert_eq!(first_in_words(0), "nothing");
         assert_eq!(first_in_words(0x1F01_EA60), "job 31 in mode 1 for 60000 ms");
         assert_eq!(first_in_words(0xA_0000_0005), "refused 10 (KNOT) at 5");
+    }
+
+    #[test]
+    fn a_worth_as_a_number() {
+        assert_eq!(of_worth(&Ok(0)), 0);
+        assert_eq!(of_worth(&Ok(1_000_000)), 0xF_4240);
+        assert_eq!(of_worth(&Ok(-1)), 0xFFFF_FFFF);
+        assert_eq!(of_worth(&Ok(-1_000_000)), 0xFFF0_BDC0);
+        let tail = Refusal::new(refusal::TAIL, 15);
+        assert_eq!(of_worth(&Err(tail)), 0x9_0000_000F);
+        let cut = Refusal::new(refusal::CUT, 0);
+        assert_eq!(of_worth(&Err(cut)), 0x5_0000_0000);
+    }
+
+    #[test]
+    fn a_worth_in_words() {
+        assert_eq!(worth_in_words(0), "worth 0");
+        assert_eq!(worth_in_words(0xF_4240), "worth 1000000");
+        assert_eq!(worth_in_words(0xFFF0_BDC0), "worth -1000000");
+        assert_eq!(worth_in_words(0x5_0000_0000), "refused 5 (CUT) at 0");
     }
 }

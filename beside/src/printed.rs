@@ -1,5 +1,7 @@
 //! What the corpus program must print, as the second planner has it.
 
+pub mod worth;
+
 use crate::code;
 use crate::hex::hex;
 use second::answer::{answer, MOST_BYTES};
@@ -17,6 +19,7 @@ pub fn of_book(number: usize, book: &[u8]) -> String {
     text += &row_line(number, book);
     text += &record_line(number, book);
     text += &first_lines(number, book);
+    text += &worth::line(number, book);
     text += &second::listing(book);
     text += &second::first_listing(book);
     text
@@ -110,6 +113,7 @@ mod tests {
                  0 record 0 {record}\n\
                  0 first 0 1 2\n\
                  0 word 65538\n\
+                 0 worth 0 0 0 0 0\n\
                  victims 0\npart 0 A 2 at 0\npart 1 N 5 at 2\ntotal 22 end 7 rounds 1\n\
                  part 0 A 2 at 0\n"
             )
@@ -125,6 +129,7 @@ mod tests {
              8 record 3 none\n\
              8 first 1 1 3\n\
              8 word 16842755\n\
+             8 worth 25769803776 25769803776 25769803776 25769803776 25769803776\n\
              victims 1 1\npart 1 A 3 at 0\npart 0 N 10 at 3\ntotal 50 end 13 rounds 1\n\
              part 1 A 3 at 0\n"
         );
@@ -139,6 +144,7 @@ mod tests {
              3 record 3 none\n\
              3 first nothing\n\
              3 word 0\n\
+             3 worth 25769803787 25769803787 25769803787 25769803787 25769803787\n\
              victims 0\ntotal 0 end 0 rounds 0\n\
              nothing\n"
         );
@@ -155,6 +161,7 @@ mod tests {
                  11 record 1 {record}\n\
                  11 first refused 10 at 0\n\
                  11 word 42949672960\n\
+                 11 worth 20 20 20 20 0\n\
                  refused 10 at 0\n\
                  refused 10 at 0\n"
             )
@@ -170,6 +177,7 @@ mod tests {
              2 record 2 refused 2 at 0\n\
              2 first refused 2 at 0\n\
              2 word 8589934592\n\
+             2 worth 21474836480 21474836480 21474836480 21474836480 21474836480\n\
              refused 2 at 0\n\
              refused 2 at 0\n"
         );

@@ -28,6 +28,14 @@ pub fn first(book: &[u8]) -> u64 {
     unsafe { face::ilhuepatl_first(book.as_ptr(), book.len()) }
 }
 
+/// What a curve's bytes are worth at `t`, as the 32 bits of two's complement.
+/// Where they are refused, number x 2^32 + place.
+#[inline]
+pub fn worth(curve: &[u8], t: u32) -> u64 {
+    // SAFETY: as above; nothing is written.
+    unsafe { face::ilhuepatl_worth(curve.as_ptr(), curve.len(), t) }
+}
+
 #[cfg(not(no_archive))]
 mod face {
     extern "C" {
@@ -39,6 +47,7 @@ mod face {
         ) -> u64;
         pub fn ilhuepatl_record(book: *const u8, book_len: usize, job: usize) -> u64;
         pub fn ilhuepatl_first(book: *const u8, book_len: usize) -> u64;
+        pub fn ilhuepatl_worth(curve: *const u8, curve_len: usize, t: u32) -> u64;
     }
 }
 
@@ -55,6 +64,10 @@ mod face {
     }
 
     pub unsafe fn ilhuepatl_first(_: *const u8, _: usize) -> u64 {
+        missing()
+    }
+
+    pub unsafe fn ilhuepatl_worth(_: *const u8, _: usize, _: u32) -> u64 {
         missing()
     }
 

@@ -1,6 +1,6 @@
 //! What was met, so that one can see whether the books were worth making.
 
-use second::refusal::{self, Refusal};
+use second::refusal::{self, Refusal, CUT, RANGE, TAIL};
 use second::Plan;
 
 #[derive(Default)]
@@ -15,17 +15,54 @@ pub struct Tally {
     most_parts: usize,
     most_rounds: usize,
     questions: u64,
+    worths: Worths,
+}
+
+/// What the worth call answered.
+#[derive(Default)]
+pub struct Worths {
+    below_zero: u64,
+    zero: u64,
+    above_zero: u64,
+    refused: [u64; 11],
+}
+
+impl Worths {
+    pub fn add(&mut self, worth: &Result<i64, Refusal>) {
+        match worth {
+            Ok(..=-1) => self.below_zero += 1,
+            Ok(0) => self.zero += 1,
+            Ok(1..) => self.above_zero += 1,
+            Err(refusal) => self.refused[usize::from(refusal.number)] += 1,
+        }
+    }
+
+    fn add_all(&mut self, other: &Worths) {
+        self.below_zero += other.below_zero;
+        self.zero += other.zero;
+        self.above_zero += other.above_zero;
+        for (sum, count) in self.refused.iter_mut().zip(other.refused) {
+            *sum += count;
+        }
+    }
 }
 
 impl Tally {
-    /// Counts one book: what it was planned as, and how many record questions
-    /// were asked about it.
-    pub fn add(&mut self, kind: &'static str, planned: &Result<Plan, Refusal>, questions: u64) {
+    /// Counts one book: what it was planned as, how many record questions were
+    /// asked about it, and what the worth call answered.
+    pub fn add(
+        &mut self,
+        kind: &'static str,
+        planned: &Result<Plan, Refusal>,
+        questions: u64,
+        worths: &Worths,
+    ) {
         match self.kinds.iter_mut().find(|(name, _)| *name == kind) {
             Some((_, count)) => *count += 1,
             None => self.kinds.push((kind, 1)),
         }
         self.questions += questions;
+        self.worths.add_all(worths);
         let plan = match planned {
             Ok(plan) => plan,
             Err(refusal) => {
@@ -63,13 +100,25 @@ impl Tally {
             self.most_parts, self.most_rounds
         );
         // ROOM is asked for with each book, by an output that is too short.
-        let refused: Vec<String> = (2..=10u8)
-            .map(|number| {
-                let count = self.refused[usize::from(number)];
-                format!("{number} {} {count}", refusal::name(number))
-            })
-            .collect();
-        println!("refused: {}", refused.join(", "));
+        println!("refused: {}", by_number(&self.refused, 2..=10));
         println!("record questions {}", self.questions);
+        let worths = &self.worths;
+        println!(
+            "worths: {} above zero, {} zero, {} below; refused: {}",
+            worths.above_zero,
+            worths.zero,
+            worths.below_zero,
+            by_number(&worths.refused, [CUT, RANGE, TAIL])
+        );
     }
+}
+
+/// The refusals of some numbers, in words.
+fn by_number(refused: &[u64; 11], numbers: impl IntoIterator<Item = u8>) -> String {
+    let words = |number: u8| {
+        let count = refused[usize::from(number)];
+        format!("{number} {} {count}", refusal::name(number))
+    };
+    let words: Vec<String> = numbers.into_iter().map(words).collect();
+    words.join(", ")
 }

@@ -110,15 +110,21 @@ pub fn read(bytes: &[u8]) -> Result<Book, Refusal> {
         jobs.push(job(&mut reader, &mut stood)?);
         records.push(first..reader.place);
     }
-    if reader.place < bytes.len() {
-        return Err(Refusal::new(TAIL, reader.place));
-    }
+    reader.all_read()?;
     Ok(Book {
         now,
         resources,
         jobs,
         records,
     })
+}
+
+/// Reads the bytes of one curve alone, by the rules that hold for it in a book.
+pub fn read_curve(bytes: &[u8]) -> Result<Curve, Refusal> {
+    let mut reader = Reader { bytes, place: 0 };
+    let curve = curve(&mut reader)?;
+    reader.all_read()?;
+    Ok(curve)
 }
 
 fn job(reader: &mut Reader, stood: &mut [bool]) -> Result<Job, Refusal> {
@@ -239,7 +245,7 @@ fn ends_in_range(piece: &Piece, end: i64) -> bool {
     (-MOST_VALUE..=MOST_VALUE).contains(&value)
 }
 
-/// The bytes of the book and the place reached in them.
+/// The bytes of the book, or of one curve, and the place reached in them.
 struct Reader<'a> {
     bytes: &'a [u8],
     place: usize,
@@ -269,6 +275,14 @@ impl Reader<'_> {
             field.value
         };
         Ok(Field { value, ..field })
+    }
+
+    /// Nothing may stand after the last field: TAIL.
+    fn all_read(&self) -> Result<(), Refusal> {
+        if self.place < self.bytes.len() {
+            return Err(Refusal::new(TAIL, self.place));
+        }
+        Ok(())
     }
 }
 

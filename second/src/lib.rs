@@ -8,6 +8,7 @@
 pub mod answer;
 pub mod book;
 pub mod circles;
+pub mod curve_worth;
 pub mod demand3;
 pub mod first;
 pub mod listing;
@@ -20,6 +21,7 @@ pub mod rounds;
 pub mod worth;
 
 pub use answer::answer;
+pub use curve_worth::curve_worth;
 pub use demand3::check_demand3;
 pub use first::first;
 pub use listing::{first_listing, listing};

@@ -1,7 +1,8 @@
 //! The table of 01, "What a refusal says".
 
 /// A refusal: its number in the table and its place. The place is a byte
-/// offset in the book, except for KNOT, where it is a job number.
+/// offset in the bytes that were asked about, a book or one curve, except for
+/// KNOT, where it is a job number.
 #[derive(Clone, Copy, Debug, PartialEq, Eq)]
 pub struct Refusal {
     pub number: u8,
@@ -16,7 +17,7 @@ pub const SIZE: u8 = 2;
 pub const VERSION: u8 = 3;
 /// Over 32 jobs (place 3), then over 32 resources (place 4).
 pub const COUNT: u8 = 4;
-/// A field runs past the book's end. Place: the field's first byte.
+/// A field runs past the end of the bytes. Place: the field's first byte.
 pub const CUT: u8 = 5;
 /// A field breaks a rule. Place: the field's first byte.
 pub const RANGE: u8 = 6;
@@ -24,7 +25,8 @@ pub const RANGE: u8 = 6;
 pub const TWICE: u8 = 7;
 /// A rollback job has a request or the never mark. Place: the job's first byte.
 pub const MODE: u8 = 8;
-/// Bytes after the last job. Place: the first of them.
+/// Bytes after the last job, or after a curve that is asked about alone. Place:
+/// the first of them.
 pub const TAIL: u8 = 9;
 /// A wait circle has no member that can be rolled back. Place: the lowest job
 /// on any such circle.

@@ -37,7 +37,7 @@ pub struct Curve {
     pub termination: u32,
 }
 
-const NO_CURVE: Curve = Curve {
+pub const NO_CURVE: Curve = Curve {
     count: 0,
     start: [0; 8],
     value: [0; 8],

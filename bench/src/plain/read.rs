@@ -1,6 +1,6 @@
 //! Reading a book.
 
-use super::book::{Book, Curve, LAST_TIME, NEVER, NONE};
+use super::book::{Book, Curve, LAST_TIME, NEVER, NONE, NO_CURVE};
 use super::{refused, COUNT, CUT, MODE, RANGE, SIZE, TAIL, TWICE, VERSION};
 
 impl Book {
@@ -30,10 +30,7 @@ impl Book {
             self.read_job(&mut reader, job, resources)?;
         }
         self.first[self.count] = reader.place as u16;
-        if reader.place < bytes.len() {
-            return refused(TAIL, reader.place);
-        }
-        Ok(())
+        reader.all_read()
     }
 
     fn read_job(&mut self, reader: &mut Reader, job: usize, resources: u8) -> Result<(), u64> {
@@ -122,6 +119,15 @@ fn a_rollback(time: u32) -> bool {
 }
 
 impl Curve {
+    /// From bytes that are one curve and nothing else.
+    pub fn alone(bytes: &[u8]) -> Result<Curve, u64> {
+        let mut reader = Reader { bytes, place: 0 };
+        let mut curve = NO_CURVE;
+        curve.read(&mut reader)?;
+        reader.all_read()?;
+        Ok(curve)
+    }
+
     fn read(&mut self, reader: &mut Reader) -> Result<(), u64> {
         let place = reader.place;
         self.count = usize::from(reader.byte()?);
@@ -192,5 +198,12 @@ impl Reader<'_> {
 
     fn long(&mut self) -> Result<u32, u64> {
         self.field().map(u32::from_be_bytes)
+    }
+
+    fn all_read(&self) -> Result<(), u64> {
+        if self.place < self.bytes.len() {
+            return refused(TAIL, self.place);
+        }
+        Ok(())
     }
 }

@@ -6,6 +6,7 @@ mod listing;
 mod print;
 mod record;
 mod row;
+mod worth;
 
 use crate::answer::wide;
 
@@ -16,6 +17,7 @@ fn book_lines(index: u64, bytes: &[u8]) {
     record::record_line(index, bytes);
     first::first_line(index, bytes);
     first::word_line(index, bytes);
+    worth::worth_line(index, bytes);
     listing::listing_lines(bytes);
     first::first_text(bytes);
 }

@@ -4,7 +4,10 @@
 
 use second::make;
 use second::refusal::{self, Refusal};
-use second::{answer, check_demand3, first, first_listing, listing, plan, record, Plan};
+use second::worth::worth;
+use second::{
+    answer, check_demand3, curve_worth, first, first_listing, listing, plan, record, Plan,
+};
 
 fn main() {
     let mut arguments = std::env::args().skip(1);
@@ -65,6 +68,7 @@ fn check(kind: &str, book: &[u8]) -> Result<Planned, String> {
     check_listing(book, &planned)?;
     check_first(book, &planned)?;
     check_records(book, &planned)?;
+    check_worths(book)?;
     Ok(planned)
 }
 
@@ -208,6 +212,38 @@ fn check_records(book: &[u8], planned: &Planned) -> Result<(), String> {
     that(place == book.len(), "the records don't fill the book")?;
     for job in [usize::from(book[3]), 255, usize::MAX] {
         that(record(book, job) == Ok(None), "a record past the count")?;
+    }
+    Ok(())
+}
+
+/// A curve that is read alone is worth what it is in the book, and it ends where
+/// its record does. So bytes that are too few or too many are refused.
+fn check_worths(book: &[u8]) -> Result<(), String> {
+    let Ok(read) = second::book::read(book) else {
+        return Ok(());
+    };
+    for (job, range) in read.jobs.iter().zip(&read.records) {
+        let first = range.start + 11 + 5 * job.held.len();
+        let (bytes, curve) = (&book[first..range.end], &job.curve);
+        let starts = curve.pieces.iter().map(|piece| piece.start);
+        for edge in starts.chain([curve.termination]) {
+            for t in [(edge - 1).max(0), edge, edge + 1] {
+                that(
+                    curve_worth(bytes, t as u32) == Ok(worth(curve, t)),
+                    "a curve's worth alone and in the book differ",
+                )?;
+            }
+        }
+        that(
+            curve_worth(&bytes[..bytes.len() - 1], 0)
+                == Err(Refusal::new(refusal::CUT, bytes.len() - 4)),
+            "a curve without its last byte is not CUT at termination",
+        )?;
+        let more = [bytes, &[0]].concat();
+        that(
+            curve_worth(&more, 0) == Err(Refusal::new(refusal::TAIL, bytes.len())),
+            "no TAIL after a curve",
+        )?;
     }
     Ok(())
 }

@@ -142,15 +142,21 @@ impl JobOf {
         for held in &self.held {
             bytes.extend(claim(held));
         }
-        bytes.push(self.pieces.len() as u8);
-        for (start, value, slope) in &self.pieces {
-            bytes.extend(start.to_be_bytes());
-            bytes.extend(value.to_be_bytes());
-            bytes.extend(slope.to_be_bytes());
-        }
-        bytes.extend(self.termination.to_be_bytes());
+        bytes.extend(curve(&self.pieces, self.termination));
         bytes
     }
+}
+
+/// A curve's bytes: start, value and slope of each piece, then termination.
+pub fn curve(pieces: &[(u32, i32, i16)], termination: u32) -> Vec<u8> {
+    let mut bytes = vec![pieces.len() as u8];
+    for (start, value, slope) in pieces {
+        bytes.extend(start.to_be_bytes());
+        bytes.extend(value.to_be_bytes());
+        bytes.extend(slope.to_be_bytes());
+    }
+    bytes.extend(termination.to_be_bytes());
+    bytes
 }
 
 fn claim(&(resource, hold, rollback): &(u8, u32, u32)) -> Vec<u8> {

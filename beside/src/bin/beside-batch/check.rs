@@ -7,7 +7,7 @@ use beside::hex;
 use beside::made::Made;
 use beside::printed;
 use beside::replayed::{plan_of, replayed};
-use beside::tally::Tally;
+use beside::tally::{Tally, Worths};
 use second::{Plan, Refusal};
 
 /// Every byte that was printed, and how the program ended. A difference comes
@@ -22,7 +22,11 @@ pub fn check<'a>(
         let book = &made.book;
         let checked = caught(|| of_book(number, book, rest));
         let (planned, later) = checked.map_err(|difference| (made, with_end(difference, ended)))?;
-        tally.add(made.kind, &planned, 1);
+        let mut worths = Worths::default();
+        for worth in printed::worth::answers(number, book) {
+            worths.add(&worth);
+        }
+        tally.add(made.kind, &planned, 1, &worths);
         rest = later;
     }
     let last = batch.books.last().expect("a batch has room for a book");

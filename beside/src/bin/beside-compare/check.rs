@@ -1,5 +1,6 @@
 //! Everything that is compared about one book.
 
+use crate::curves::{copies, curves, moments, places};
 use crate::questions::job_numbers;
 use beside::code;
 use beside::difference::{same, Difference};
@@ -7,7 +8,10 @@ use beside::fence::Fenced;
 use beside::hex::hex;
 use beside::proved;
 use beside::replayed::{plan_of, replayed};
+use beside::tally::Worths;
 use second::answer::MOST_BYTES;
+use second::book::Book;
+use second::make::Dice;
 use second::{Plan, Refusal};
 
 /// Lengths of the output: none, one too few, just enough, one more, larger.
@@ -21,17 +25,21 @@ const MARGIN: usize = 64;
 
 /// The longest book that `second::make` makes is shorter.
 const LONGEST_BOOK: usize = 1 << 17;
+/// Eight pieces and a byte more are shorter.
+const LONGEST_CURVE: usize = 128;
 
 /// What one book brought, for the tally.
 pub struct Met {
     pub planned: Result<Plan, Refusal>,
     /// How many job numbers were asked for.
     pub questions: u64,
+    pub worths: Worths,
 }
 
 pub struct Checker {
     replay: bool,
     book: Fenced,
+    curve: Fenced,
     output: Fenced,
 }
 
@@ -40,11 +48,13 @@ impl Checker {
         Checker {
             replay,
             book: Fenced::new(LONGEST_BOOK),
+            curve: Fenced::new(LONGEST_CURVE),
             output: Fenced::new(MARGIN + LARGEST),
         }
     }
 
-    pub fn check(&mut self, book: &[u8]) -> Result<Met, Difference> {
+    /// `seed` says how the book's curves are damaged.
+    pub fn check(&mut self, book: &[u8], seed: u64) -> Result<Met, Difference> {
         self.book.last(book.len()).copy_from_slice(book);
         let mut answer = [0; MOST_BYTES];
         let verdict = second::answer(book, &mut answer);
@@ -68,8 +78,10 @@ impl Checker {
         if let (Ok(plan), true) = (&planned, self.replay) {
             replayed(book, plan)?;
         }
-        let questions = self.records(book)?;
+        let read = second::book::read(book);
+        let questions = self.records(book, &read)?;
         self.first(book, &planned)?;
+        let worths = self.worths(book, &read, &mut Dice::new(seed))?;
 
         // The book is lent to be read alone.
         same(
@@ -78,7 +90,11 @@ impl Checker {
             || "the book's bytes after all calls".to_string(),
             hex,
         )?;
-        Ok(Met { planned, questions })
+        Ok(Met {
+            planned,
+            questions,
+            worths,
+        })
     }
 
     /// The plan call into `length` bytes that hold a pattern: its number must be
@@ -125,13 +141,12 @@ impl Checker {
     }
 
     /// The record question, and how many numbers were asked for.
-    fn records(&mut self, book: &[u8]) -> Result<u64, Difference> {
+    fn records(&mut self, book: &[u8], read: &Result<Book, Refusal>) -> Result<u64, Difference> {
         // `second::record` would read the whole book again for each number.
-        let read = second::book::read(book);
         let lent = &*self.book.last(book.len());
         let mut asked = 0;
         for job in job_numbers(book) {
-            let expected = match &read {
+            let expected = match read {
                 Ok(read) => code::of_record(read.records.get(job)),
                 Err(refusal) => code::of_refusal(*refusal),
             };
@@ -167,6 +182,52 @@ impl Checker {
             code::first_in_words,
         )
     }
+
+    /// The worth call: about the curves of some jobs, good and damaged, and about
+    /// the book's own bytes.
+    fn worths(
+        &mut self,
+        book: &[u8],
+        read: &Result<Book, Refusal>,
+        dice: &mut Dice,
+    ) -> Result<Worths, Difference> {
+        let mut met = Worths::default();
+        if let Ok(read) = read {
+            for curve in curves(book, read) {
+                for copy in copies(curve, dice) {
+                    let lent = self.curve.last(copy.len());
+                    lent.copy_from_slice(&copy);
+                    worth(&copy, lent, &mut met)?;
+                }
+            }
+        }
+        for place in places(book, dice) {
+            let lent = self.book.last(book.len() - place);
+            worth(&book[place..], lent, &mut met)?;
+        }
+        Ok(met)
+    }
+}
+
+/// The worth of bytes that are also lent up to the fence, at each moment.
+fn worth(part: &[u8], lent: &[u8], met: &mut Worths) -> Result<(), Difference> {
+    let refused = second::curve_worth(part, 0).is_err();
+    for t in moments(part, refused) {
+        let second = second::curve_worth(part, t);
+        same(
+            code::of_worth(&second),
+            proved::worth(lent, t),
+            || format!("the worth at {t} of the curve {}", hex(part)),
+            code::worth_in_words,
+        )?;
+        met.add(&second);
+    }
+    same(
+        part,
+        lent,
+        || "the curve's bytes after all calls".to_string(),
+        hex,
+    )
 }
 
 /// The byte that an output of some length holds at a place before the call.

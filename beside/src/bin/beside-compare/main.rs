@@ -5,6 +5,7 @@
 mod arguments;
 mod check;
 mod crash;
+mod curves;
 mod questions;
 
 use beside::difference::caught;
@@ -30,8 +31,8 @@ fn main() {
     for at in 0..count {
         let made = made(seed, at);
         crash::watch(&made.book);
-        match caught(|| checker.check(&made.book)) {
-            Ok(met) => tally.add(made.kind, &met.planned, met.questions),
+        match caught(|| checker.check(&made.book, made.seed)) {
+            Ok(met) => tally.add(made.kind, &met.planned, met.questions, &met.worths),
             Err(difference) => {
                 difference.print(seed, &made);
                 std::process::exit(1);
