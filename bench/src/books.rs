@@ -14,6 +14,8 @@ pub struct Set {
     pub size: usize,
     /// The bytes that each call gets: a book, or what `curves` makes.
     pub items: Vec<Vec<u8>>,
+    /// Whether each of them is refused.
+    pub refused: bool,
 }
 
 #[derive(Clone, Copy)]
@@ -26,7 +28,7 @@ enum Shape {
 }
 
 pub fn sets() -> Vec<Set> {
-    let mut sets = Vec::new();
+    let mut sets = vec![set("independent", Shape::Independent, 1)];
     for (name, shape) in [
         ("independent", Shape::Independent),
         ("random sharing", Shape::Random),
@@ -38,7 +40,21 @@ pub fn sets() -> Vec<Set> {
         }
     }
     sets.push(set("one circle", Shape::Circles(32), 32));
+    for jobs in [1, 30] {
+        sets.push(spoilt(set("refused at its end", Shape::Independent, jobs)));
+    }
     sets
+}
+
+/// The same books, refused at their last field: a termination before the last
+/// start, so that all of the book is read first.
+fn spoilt(mut set: Set) -> Set {
+    for book in &mut set.items {
+        let end = book.len();
+        book[end - 4..].fill(0);
+    }
+    set.refused = true;
+    set
 }
 
 fn set(name: &'static str, shape: Shape, jobs: usize) -> Set {
@@ -46,6 +62,7 @@ fn set(name: &'static str, shape: Shape, jobs: usize) -> Set {
         name,
         size: jobs,
         items: (0..OF_A_KIND).map(|seed| book(shape, jobs, seed)).collect(),
+        refused: false,
     }
 }
 

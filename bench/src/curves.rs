@@ -24,6 +24,7 @@ fn set(pieces: usize) -> Set {
         name: "one curve",
         size: pieces,
         items: (0..OF_A_KIND).map(item).collect(),
+        refused: false,
     }
 }
 

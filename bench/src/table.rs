@@ -112,8 +112,7 @@ fn mean(set: &Set, of: fn(&[u8]) -> usize) -> usize {
 }
 
 fn parts(book: &[u8]) -> usize {
-    let plan = second::plan(book).expect("every book was accepted");
-    plan.parts.len()
+    second::plan(book).map_or(0, |plan| plan.parts.len())
 }
 
 pub fn notes() {

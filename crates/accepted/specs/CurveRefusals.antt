@@ -1,14 +1,14 @@
 -- What bytes that are no curve are refused with: CUT, RANGE or TAIL, at a place in those bytes, or at most their end for CUT.
-use Prim.Native.Nat.{ℕ, suc, _-_, _<_, _≤_}
+use Prim.Native.Nat.{ℕ, _-_, _<_}
 use native.Mathlib.Omega.{arith}
 use mathlib.Core.Path.{_≡_, refl}
 use mathlib.Core.Bool.{Bool, true, false, cond}
 use mathlib.Core.Logic.{inl, inr}
 use mathlib.Core.List.{List}
-use lib.Dec.{ltb, eqb}
+use lib.Dec.{ltb}
 use lib.ListN.{length}
 use borrow.Author.Tests.{lt-ltb, le-ltb}
-use Rattle.laws.specs.Count.{upto, upto-each}
+use Rattle.laws.specs.Count.{upto-each}
 use Rattle.laws.specs.Search.{lt-or-le}
 use Rattle.cursor.specs.declared.Reading.{Reading}
 use Rattle.cursor.specs.Refusal.{CUT, RANGE, TAIL}

@@ -22,7 +22,7 @@ use Rattle.book.specs.Format.{noRecord, noSpan, recordRead, recordNext, noRecor
 use Rattle.accepted.specs.Fields.{Onward, onward, rule-kept, rule-passed}
 use Rattle.accepted.specs.Sticks.{unrefused-before, record-next-sticks, records-sticks, tail-sticks, loop-sticks}
 use Rattle.accepted.specs.Layout.{Bytes, recordAt, jobsAt, resourcesAt, nowAt, jobPlace}
-use Rattle.accepted.specs.Holders.{Agree, agree-none, agree-job}
+use Rattle.laws.specs.Holders.{Agree, agree-none, agree-job}
 use Rattle.accepted.specs.Kept.{HeaderKept, RecordKept, BookKept, heldOf, holdsOf}
 use Rattle.accepted.specs.Headers.{header-got, header-back}
 use Rattle.accepted.specs.JobRecords.{RecordGot, record-got, record-back}

@@ -17,7 +17,8 @@ use Rattle.book.specs.declared.Book.{Book}
 use Rattle.book.specs.Format.{noEntry, noRecord, bookOf}
 use Rattle.accepted.specs.Layout.{recordAt, heldAt, jobsAt, resourcesAt, jobPlace}
 use Rattle.accepted.specs.Rules.{GoodRecord}
-use Rattle.accepted.specs.Holders.{Before, earlier, beside, Named, getD-any}
+use Rattle.laws.specs.Inside.{inside}
+use Rattle.laws.specs.Holders.{Before, earlier, beside, Named}
 use Rattle.accepted.specs.Kept.{BookKept, heldOf, holdsOf}
 use Rattle.accepted.specs.Exactly.{BookGot, book-back}
 
@@ -122,7 +123,7 @@ module _ (s : List ℕ) (b : Book) (k : BookKept s) (g : BookGot s b) where
         let few = k .header .resources in
         let size = g .agree .size in
         let room : heldOf s i m < length (b .holders) = omega arith in
-        rw (resource-is i m x) (getD-any (b .holders) (heldOf s i m) 0 255 room ∙ holder-is i m (p .0) (p .1));
+        rw (resource-is i m x) (inside (b .holders) (heldOf s i m) 0 255 room ∙ holder-is i m (p .0) (p .1));
     held = λ r some. elim (g .agree .only r) [
       | inl z ↦ absurd (some z)
       | inr n ↦

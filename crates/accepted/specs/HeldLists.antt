@@ -19,7 +19,8 @@ use Rattle.accepted.specs.Fields.{Onward, Passes, onward, field-got, fie
 use Rattle.accepted.specs.Sticks.{unrefused-before, field-sticks, entry-next-sticks, loop-sticks, loop-sticks-all}
 use Rattle.accepted.specs.Layout.{entryPlace, entryAt, heldAt, jobPlace}
 use Rattle.accepted.specs.Rules.{GoodEntry}
-use Rattle.accepted.specs.Holders.{Before, Agree, getD-any, free-once, once-free, agree-entry}
+use Rattle.laws.specs.Inside.{inside}
+use Rattle.laws.specs.Holders.{Before, Agree, free-once, once-free, agree-entry}
 use Rattle.accepted.specs.Kept.{heldOf, holdsOf}
 
 -- ---- one entry: its fields pass,
@@ -134,7 +135,7 @@ module _ (s : List ℕ) (i resources run rollback : ℕ) (job : i < 32) (few : r
         going = onward refl (omega arith);
         holds = l .holds;
         held = rw (l .held) (sym (listed-next 32 noEntry (heldAt s (jobPlace s i)) m));
-        agree = agree-entry (holdsOf s) (heldOf s) i m (h .holders) (l .agree) job (omega arith) (getD-any (h .holders) (heldOf s i m) 255 0 room ∙ f);
+        agree = agree-entry (holdsOf s) (heldOf s) i m (h .holders) (l .agree) job (omega arith) (inside (h .holders) (heldOf s i m) 255 0 room ∙ f);
       })
 
   module _ (holders : List ℕ) (a : Agree (holdsOf s) (heldOf s) i 0 holders) where
@@ -157,7 +158,7 @@ module _ (s : List ℕ) (i resources run rollback : ℕ) (job : i < 32) (few : r
 
     -- a resource of the book has a place among the holders, whatever stands past their end
     same-holder : (m d e : ℕ) → Agree (holdsOf s) (heldOf s) i m (read m .holders) → heldOf s i m < resources → getD (read m .holders) (heldOf s i m) d ≡ getD (read m .holders) (heldOf s i m) e
-    same-holder m d e g low = let size = g .size in getD-any (read m .holders) (heldOf s i m) d e (omega arith)
+    same-holder m d e g low = let size = g .size in inside (read m .holders) (heldOf s i m) d e (omega arith)
 
     kept-next : HeldKept s i resources run rollback → (m : ℕ) → m < holdsOf s i → Listed s i m (read m) → Next m
     kept-next k m h l =

@@ -20,7 +20,7 @@ use Rattle.accepted.specs.Fields.{Onward, Passes, onward, field-got, fie
 use Rattle.accepted.specs.Sticks.{unrefused-before, field-sticks, rollback-sticks, request-sticks, held-sticks, curve-sticks}
 use Rattle.accepted.specs.Layout.{Bytes, requestAt, curvePlace, recordAt, recordEnd, heldAt, jobPlace}
 use Rattle.accepted.specs.Rules.{RollbackTime, rollback-most, NoRequest, GoodRequest, nothing, asks}
-use Rattle.accepted.specs.Holders.{Agree}
+use Rattle.laws.specs.Holders.{Agree}
 use Rattle.accepted.specs.Kept.{RecordKept, heldOf, holdsOf}
 use Rattle.accepted.specs.Requests.{rollback-got, rollback-back, request-got, request-back}
 use Rattle.accepted.specs.HeldLists.{HeldKept, held-got, held-back}

@@ -6,7 +6,7 @@ use lib.ListN.{length}
 use Rattle.cursor.specs.Field.{valueAt}
 use Rattle.accepted.specs.Layout.{heldAt, holdsAt, recordAt, recordEnd, jobsAt, resourcesAt, nowAt, jobPlace}
 use Rattle.accepted.specs.Rules.{GoodRecord}
-use Rattle.accepted.specs.Holders.{Before}
+use Rattle.laws.specs.Holders.{Before}
 
 -- SIZE, VERSION, COUNT twice, and the range of now
 pub record HeaderKept (s : List ℕ) : Type 0 where

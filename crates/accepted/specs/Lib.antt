@@ -2,7 +2,6 @@ pub mod Fields
 pub mod Sticks
 pub mod Layout
 pub mod Rules
-pub mod Holders
 pub mod Kept
 pub mod Headers
 pub mod Requests

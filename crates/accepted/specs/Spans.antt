@@ -7,6 +7,8 @@ use lib.ListN.{length, getD}
 use Rattle.book.specs.declared.Span.{Span}
 use Rattle.book.specs.declared.Book.{Book}
 use Rattle.book.specs.Format.{noSpan, bookOf}
+use Rattle.book.specs.Judged.{startsOf}
+use Rattle.book.specs.Starts.{start-is}
 use Rattle.laws.specs.Listed.{listed-at}
 use Rattle.accepted.specs.Layout.{jobsAt, jobPlace}
 use Rattle.accepted.specs.Kept.{BookKept}
@@ -42,3 +44,9 @@ module _ (s : List ℕ) (b : Book) (k : BookKept s) (g : BookGot s b) where
 
 pub accepted-laid : (s : List ℕ) → bookOf s .number ≡ 0 → Laid s (bookOf s)
 accepted-laid s h = let z = book-back s h in laid s (bookOf s) (z .0) (z .1)
+
+-- so the places that the judge hands over are those of the records
+pub starts-at : (s : List ℕ) → bookOf s .number ≡ 0 → (i : ℕ) → i < bookOf s .jobs → getD (startsOf (bookOf s)) i 0 ≡ jobPlace s i
+starts-at s h i l =
+    let z = book-back s h in
+    sym (start-is s i l) ∙ ap (λ (x : Span). x .start) (span-is s (bookOf s) (z .0) (z .1) i l)

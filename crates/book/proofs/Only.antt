@@ -15,14 +15,14 @@ use contract.Monad.{Fun, conj, fact}
 use denote.Ref.{RefT}
 use denote.Slice.{slice-vals}
 use denote.Triple.Clauses.{AtExit}
-use Rattle.book.specs.declared.Book.{Book}
+use Rattle.book.specs.declared.Judged.{Judged}
 use Rattle.book.specs.declared.question.Found.{Found}
 use Rattle.book.specs.declared.question.RecordAnswer.{RecordAnswer}
 use Rattle.book.specs.declared.worth.CurveWorth.{CurveWorth}
 use Rattle.book.specs.Question.{IsRecord, Answers}
 use Rattle.cursor.proofs.Both.{both}
-use Rattle.book.proofs.reader.read_book.Kinds as read-book-kinds
-use Rattle.book.proofs.reader.read_book.Reads as read-book
+use Rattle.book.proofs.judge.judge.Kinds as judge-kinds
+use Rattle.book.proofs.judge.judge.Reads as judge
 use Rattle.book.proofs.worth.worth_of_curve.Kinds as worth-of-curve-kinds
 use Rattle.book.proofs.worth.worth_of_curve.Reads as worth-of-curve
 use Rattle.book.proofs.question.find_record.Kinds as find-record-kinds
@@ -31,8 +31,8 @@ use Rattle.book.proofs.question.RecordAnswer.Laws.{lowered}
 use Rattle.book.proofs.question.record as record-asked
 use Rattle.book.proofs.question.record_part as record-part
 
-read-book-only : (κs : Lfts 1) (s : RefT (List ℕ)) (r r′ : Book) (e e′ : AtExit (endedOf 1 read-book-kinds.ps read-book-kinds.r) κs) → read-book.Post κs (s, tt) r e → read-book.Post κs (s, tt) r′ e′ → r ≡ r′
-read-book-only κs s r r′ e e′ p q = p ∙ sym q
+judge-only : (κs : Lfts 1) (s : RefT (List ℕ)) (r r′ : Judged) (e e′ : AtExit (endedOf 1 judge-kinds.ps judge-kinds.r) κs) → judge.Post κs (s, tt) r e → judge.Post κs (s, tt) r′ e′ → r ≡ r′
+judge-only κs s r r′ e e′ p q = p ∙ sym q
 
 -- a reference under another ghost name: where it points and what it holds are the same
 abbrev under : GName → RefT (List ℕ) → RefT (List ℕ)

@@ -13,6 +13,7 @@ use Rattle.curve.specs.Layout.{signedOf}
 use Rattle.book.specs.Rules.{rollbackOk, requestOk, ifRequested, leastRollback, modeOk, aroundOk, lineOk}
 use Rattle.cursor.specs.Header.{headerOf}
 use Rattle.book.specs.Format.{rollbackRead, requestedResource, requestedRollback, requestRead, unheldRead, heldResource, entryRead, noEntry, entryNext, heldRead, startRead, signedRead, pieceRead, pieceNext, piecesRead, endRead, curveRead, recordRead, noRecord, recordNext, noRecords, recordsRead, tailRead, acceptedBook, refusedBook, bookOf}
+use Rattle.book.specs.Judged.{startsOf, judgedOf}
 use Rattle.book.specs.Question.{foundIn, between}
 
 -- ---- how the books below are put together
@@ -74,6 +75,11 @@ case5-seen = refl
 case5-worths : map (λ (r : Record). getD (r .curve .pieces) 0 noPiece .value) (take 2 (bookOf case5 .records)) ≡ pos 0 ∷ pos 22 ∷ []
 unfolding bookOf refusedBook acceptedBook headerOf recordsRead noRecords recordNext recordRead tailRead rollbackRead requestRead requestedResource requestedRollback heldRead entryNext entryRead heldResource unheldRead curveRead piecesRead pieceNext pieceRead startRead signedRead endRead fieldOf ruleOf readAt judged valueAt upto rollbackOk requestOk ifRequested leastRollback modeOk signedOf aroundOk lineOk
 case5-worths = refl
+
+-- its records start at 9 and 40, and the last ends at 66
+case5-starts : take 4 (judgedOf case5 .starts) ≡ 9 ∷ 40 ∷ 66 ∷ 0 ∷ []
+unfolding judgedOf startsOf bookOf refusedBook acceptedBook headerOf recordsRead noRecords recordNext recordRead tailRead rollbackRead requestRead requestedResource requestedRollback heldRead entryNext entryRead heldResource unheldRead curveRead piecesRead pieceNext pieceRead startRead signedRead endRead fieldOf ruleOf readAt judged valueAt upto rollbackOk requestOk ifRequested leastRollback modeOk signedOf aroundOk lineOk
+case5-starts = refl
 
 -- ---- one refused book for each number
 

@@ -5,6 +5,9 @@ pub mod Question
 pub mod Spans
 pub mod Size
 pub mod Judging
+pub mod Judged
+pub mod HeaderBytes
+pub mod Starts
 pub mod CurveWorth
 pub mod Example
 pub mod CurveExample

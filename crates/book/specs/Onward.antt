@@ -41,7 +41,7 @@ module _ (s : List ℕ) where
   }
 
   -- a loop of readers
-  upto-on : {B : Type 0} (f : ℕ → B → B) (at : B → Reading) → ((i : ℕ) (b : B) → Onward s (at b) (at (f i b))) → (n : ℕ) (b : B) → Onward s (at b) (at (upto f n b))
+  pub upto-on : {B : Type 0} (f : ℕ → B → B) (at : B → Reading) → ((i : ℕ) (b : B) → Onward s (at b) (at (f i b))) → (n : ℕ) (b : B) → Onward s (at b) (at (upto f n b))
   unfolding upto
   upto-on f at on zero b = same-on (at b)
   upto-on f at on (suc n) b = then-on (upto-on f at on n b) (on n (upto f n b))

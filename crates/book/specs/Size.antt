@@ -19,7 +19,7 @@ unfolding upto recordNext noRecords
 read-size s resources r zero = length-replicate 32 noRecord
 read-size s resources r (suc i) = length-set (upto (recordNext s resources) i (noRecords r) .records) i _ ∙ read-size s resources r i
 
-span-size : (s : List ℕ) (resources : ℕ) (r : Reading) (jobs : ℕ) → length (upto (recordNext s resources) jobs (noRecords r) .spans) ≡ 32
+pub span-size : (s : List ℕ) (resources : ℕ) (r : Reading) (jobs : ℕ) → length (upto (recordNext s resources) jobs (noRecords r) .spans) ≡ 32
 unfolding upto recordNext noRecords
 span-size s resources r zero = length-replicate 32 noSpan
 span-size s resources r (suc i) = length-set (upto (recordNext s resources) i (noRecords r) .spans) i _ ∙ span-size s resources r i

@@ -1,9 +1,9 @@
 // The held list of a job.
 ghost use mathlib.Core.Path.{_≡_};
-ghost use Prim.Native.Nat.{_≤_};
 ghost use lib.ListN.{getD, set};
 ghost use Rattle.cursor.specs.Field.{Is};
-ghost use Rattle.book.specs.Format.{unheldRead, heldResource, entryRead, heldRead};
+ghost use Rattle.book.specs.Format.{unheldRead, heldResource};
+ghost use Rattle.book.specs.Judging.{EntryJudged, HeldJudged};
 use crate::Entry;
 use crate::rules::least_rollback;
 use cursor::Reading;
@@ -12,6 +12,7 @@ use cursor::field::TWICE;
 use cursor::field::field;
 use cursor::field::rule;
 
+// No code makes one of these two: the definitions of specs/Format speak of them.
 pub struct EntryRead {
     pub reading: Reading,
     pub entry: Entry,
@@ -25,98 +26,79 @@ pub struct HeldList {
     pub holders: [u8; 32],
 }
 
-fn holder_at(holders: [u8; 32], resource: usize) -> u8
-    ensures { λ r. ⌜ r ≡ getD holders resource 0 ⌝ }
+fn holder_at(holders: &[u8; 32], resource: usize) -> u8
+    ensures { λ r. ⌜ r ≡ getD (now (holders .entry)) resource 0 ⌝ }
 {
-    if resource < 32 { holders[resource] } else { 0 }
-}
-
-fn hold_for(mut holders: [u8; 32], resource: usize, job: u8) -> [u8; 32]
-    ensures { λ r. ⌜ r ≡ set holders resource job ⌝ }
-{
-    if resource < 32 {
-        holders[resource] = job;
-        holders
+    let all: &[u8] = holders;
+    if resource < all.len() {
+        all[resource]
     } else {
-        holders
+        0
     }
 }
 
-fn unheld(holders: [u8; 32], r: Reading) -> Reading
-    ensures { λ o. ⌜ Is (unheldRead holders r) (r .value) o ⌝ }
+fn hold_for(holders: &mut [u8; 32], resource: usize, job: u8)
+    ensures { λ r. ⌜ now (holders .exit) ≡ set (now (holders .entry)) resource job ⌝ }
+{
+    let all: &mut [u8] = holders;
+    if all.len() <= resource {
+        return;
+    }
+    all[resource] = job;
+}
+
+fn unheld(holders: &[u8; 32], r: Reading) -> Reading
+    ensures { λ o. ⌜ Is (unheldRead (now (holders .entry)) r) (r .value) o ⌝ }
 {
     let h = holder_at(holders, r.value);
     rule(r, h == 255, TWICE, r.place)
 }
 
-fn held_resource(s: &[u8], resources: usize, holders: [u8; 32], r: Reading) -> Reading
-    ensures { λ o. ⌜ Is (heldResource (now (s .entry)) resources holders r) 255 o ⌝ }
+fn held_resource(s: &[u8], resources: usize, holders: &[u8; 32], r: Reading) -> Reading
+    ensures { λ o. ⌜ Is (heldResource (now (s .entry)) resources (now (holders .entry)) r) 255 o ⌝ }
 {
     let a = field(s, r, 1, 0, 255, RANGE);
     let known = rule(a, a.value < resources, RANGE, a.place);
     unheld(holders, known)
 }
 
-fn entry_read(
-    s: &[u8],
-    resources: usize,
-    run: usize,
-    rollback: usize,
-    holders: [u8; 32],
-    r: Reading,
-) -> EntryRead
-    requires { ⌜ (run ≤ 65535) × (rollback ≤ 65535) ⌝ }
-    ensures { λ o. ⌜ o ≡ entryRead (now (s .entry)) resources run rollback holders r ⌝ }
-{
-    let a = held_resource(s, resources, holders, r);
-    let b = field(s, a, 2, 1, run, RANGE);
-    let low = least_rollback(rollback);
-    let c = field(s, b, 2, low, rollback, RANGE);
-    EntryRead {
-        reading: c,
-        entry: Entry {
-            resource: a.value as u8,
-            hold: b.value as u16,
-            rollback: c.value as u16,
-        },
-    }
-}
-
-pub(crate) fn held_read(
+// An entry judged, and its resource noted as the job's.
+fn entry_judged(
     s: &[u8],
     job: u8,
     resources: usize,
     run: usize,
     rollback: usize,
-    holders: [u8; 32],
+    holders: &mut [u8; 32],
     r: Reading,
-) -> HeldList
-    requires { ⌜ (run ≤ 65535) × (rollback ≤ 65535) ⌝ }
-    ensures { λ o. ⌜ o ≡ heldRead (now (s .entry)) job resources run rollback holders r ⌝ }
+) -> Reading
+    ensures { λ o. ⌜ EntryJudged (now (s .entry)) job resources run rollback (now (holders .entry)) r o (now (holders .exit)) ⌝ }
 {
-    let a = field(s, r, 1, 0, 32, RANGE);
-    let n = a.value;
-    let mut reading = a;
-    let mut held = [Entry {
-        resource: 0,
-        hold: 0,
-        rollback: 0,
-    }; 32];
-    let mut owners = holders;
+    let a = held_resource(s, resources, holders, r);
+    let b = field(s, a, 2, 1, run, RANGE);
+    let low = least_rollback(rollback);
+    let c = field(s, b, 2, low, rollback, RANGE);
+    hold_for(holders, a.value, job);
+    c
+}
+
+pub(crate) fn held_judged(
+    s: &[u8],
+    job: u8,
+    resources: usize,
+    run: usize,
+    rollback: usize,
+    holders: &mut [u8; 32],
+    r: Reading,
+) -> Reading
+    ensures { λ o. ⌜ HeldJudged (now (s .entry)) job resources run rollback (now (holders .entry)) r o (now (holders .exit)) ⌝ }
+{
+    let mut reading = field(s, r, 1, 0, 32, RANGE);
+    let n = reading.value;
     let mut i: usize = 0;
     while i < n {
-        let x = entry_read(s, resources, run, rollback, owners, reading);
-        reading = x.reading;
-        let e = x.entry;
-        held[i] = e;
-        let next = hold_for(owners, e.resource as usize, job);
-        owners = next;
+        reading = entry_judged(s, job, resources, run, rollback, holders, reading);
         i += 1;
     }
-    HeldList {
-        reading,
-        holds: n,
-        held,
-        holders: owners,
-    }
+    reading
 }

@@ -1,48 +1,45 @@
-// A curve judged by its rules, and nothing kept of it but the last piece: for a caller that asks the curve where it stands.
+// The whole book judged: its refusal, or what it has but for its records, and where these stand.
 ghost use mathlib.Core.Path.{_≡_};
-ghost use Rattle.cursor.specs.Field.{Is};
-ghost use Rattle.book.specs.Format.{piecesRead, curveRead};
-use crate::pieces::end_read;
-use crate::pieces::piece_read;
-use cursor::Reading;
-use cursor::field::RANGE;
-use cursor::field::field;
-use curve::Piece;
+ghost use Rattle.book.specs.Judged.{judgedOf};
+use crate::Judged;
+use crate::reader::record_judged;
+use crate::reader::tail;
+use cursor::head::header;
 
-// The reading after the pieces, and the last of them.
-pub struct PiecesJudged {
-    pub reading: Reading,
-    pub last: Piece,
-}
-
-fn pieces_judged(s: &[u8], r: Reading) -> PiecesJudged
-    ensures { λ o. ⌜ (o .reading ≡ piecesRead (now (s .entry)) r .reading) × (o .last ≡ piecesRead (now (s .entry)) r .last) ⌝ }
+pub fn judge(s: &[u8]) -> Judged
+    ensures { λ o. ⌜ o ≡ judgedOf (now (s .entry)) ⌝ }
 {
-    let a = field(s, r, 1, 1, 8, RANGE);
-    let n = a.value;
-    let mut reading = a;
-    let mut last = Piece {
-        start: 0,
-        value: 0,
-        slope: 0,
-    };
-    let mut low: usize = 0;
+    let h = header(s);
+    let mut reading = h.reading;
+    let mut holders = [255u8; 32];
+    let mut starts = [0usize; 33];
+    starts[0] = reading.next;
     let mut i: usize = 0;
-    while i < n {
-        let x = piece_read(s, low, last, reading);
-        reading = x.reading;
-        last = x.piece;
-        low = last.start as usize + 1;
+    while i < h.jobs {
+        reading = record_judged(s, i as u8, h.resources, &mut holders, reading);
         i += 1;
+        starts[i] = reading.next;
     }
-    PiecesJudged { reading, last }
-}
-
-pub(crate) fn curve_judged(s: &[u8], r: Reading) -> Reading
-    ensures { λ o. ⌜ Is (curveRead (now (s .entry)) r .reading) 2147483647 o ⌝ }
-{
-    let c = pieces_judged(s, r);
-    let reading = c.reading;
-    let last = c.last;
-    end_read(s, last, reading)
+    let last = tail(s, reading);
+    if 0 < last.number {
+        holders = [255u8; 32];
+        starts = [0usize; 33];
+        return Judged {
+            number: last.number,
+            place: last.place,
+            now: 0,
+            jobs: 0,
+            holders,
+            starts,
+        };
+    }
+    let now = h.now as u32;
+    Judged {
+        number: 0,
+        place: 0,
+        now,
+        jobs: h.jobs,
+        holders,
+        starts,
+    }
 }

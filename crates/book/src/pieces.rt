@@ -1,4 +1,4 @@
-// The curve of a job.
+// The curve of a job, judged by its rules, and nothing kept of it but the last piece: a caller that wants its worth asks it where it stands.
 ghost use mathlib.Core.Path.{_≡_};
 ghost use Rattle.cursor.specs.Field.{Is};
 ghost use Rattle.book.specs.Format.{startRead, signedRead, pieceRead, piecesRead, endRead, curveRead};
@@ -18,7 +18,14 @@ pub struct PieceRead {
     pub piece: Piece,
 }
 
-// what a list has read: pieces 0 .. count, the last of them, and the least start of the next
+// The reading after the pieces, and the last of them.
+pub struct PiecesJudged {
+    pub reading: Reading,
+    pub last: Piece,
+}
+
+// No code makes one of these two: the definitions of specs/Format speak of them.
+// What a list has read: pieces 0 .. count, the last of them, and the least start of the next.
 pub struct PieceList {
     pub reading: Reading,
     pub count: usize,
@@ -61,8 +68,8 @@ pub(crate) fn piece_read(s: &[u8], low: usize, last: Piece, r: Reading) -> Piece
     }
 }
 
-fn pieces_read(s: &[u8], r: Reading) -> PieceList
-    ensures { λ o. ⌜ o ≡ piecesRead (now (s .entry)) r ⌝ }
+fn pieces_judged(s: &[u8], r: Reading) -> PiecesJudged
+    ensures { λ o. ⌜ (o .reading ≡ piecesRead (now (s .entry)) r .reading) × (o .last ≡ piecesRead (now (s .entry)) r .last) ⌝ }
 {
     let a = field(s, r, 1, 1, 8, RANGE);
     let n = a.value;
@@ -72,24 +79,16 @@ fn pieces_read(s: &[u8], r: Reading) -> PieceList
         value: 0,
         slope: 0,
     };
-    let mut pieces = [last; 8];
     let mut low: usize = 0;
     let mut i: usize = 0;
     while i < n {
         let x = piece_read(s, low, last, reading);
         reading = x.reading;
         last = x.piece;
-        pieces[i] = last;
         low = last.start as usize + 1;
         i += 1;
     }
-    PieceList {
-        reading,
-        count: n,
-        pieces,
-        last,
-        low,
-    }
+    PiecesJudged { reading, last }
 }
 
 pub(crate) fn end_read(s: &[u8], last: Piece, r: Reading) -> Reading
@@ -99,20 +98,11 @@ pub(crate) fn end_read(s: &[u8], last: Piece, r: Reading) -> Reading
     rule(a, line_ok(last, a.value as u32), RANGE, a.place)
 }
 
-pub(crate) fn curve_read(s: &[u8], r: Reading) -> CurveRead
-    ensures { λ o. ⌜ o ≡ curveRead (now (s .entry)) r ⌝ }
+pub(crate) fn curve_judged(s: &[u8], r: Reading) -> Reading
+    ensures { λ o. ⌜ Is (curveRead (now (s .entry)) r .reading) 2147483647 o ⌝ }
 {
-    let c = pieces_read(s, r);
+    let c = pieces_judged(s, r);
     let reading = c.reading;
     let last = c.last;
-    let e = end_read(s, last, reading);
-    let pieces = c.pieces;
-    CurveRead {
-        reading: e,
-        curve: Curve {
-            pieces,
-            count: c.count,
-            end: e.value as u32,
-        },
-    }
+    end_read(s, last, reading)
 }

@@ -1,11 +1,9 @@
 // The record question: one job's record as a part of the lent book (01, "Forms for specific places").
 ghost use mathlib.Core.Path.{_≡_};
 ghost use Prim.Native.Nat.{_≤_};
-ghost use lib.ListN.{length, getD};
-ghost use Rattle.book.specs.Format.{noSpan};
+ghost use lib.ListN.{length};
 ghost use Rattle.book.specs.Question.{foundIn, partBetween, IsRecord, Answers};
-use crate::Span;
-use crate::reader::read_book;
+use crate::judge::judge;
 
 pub struct Found {
     pub number: u8,
@@ -32,30 +30,18 @@ fn found_at(number: u8, place: usize, start: usize, end: usize) -> Found
     }
 }
 
-fn span_at(spans: [Span; 32], job: usize) -> Span
-    ensures { λ r. ⌜ r ≡ getD spans job noSpan ⌝ }
-{
-    if job < 32 {
-        spans[job]
-    } else {
-        Span { start: 0, end: 0 }
-    }
-}
-
 // Where the record of a job stands in the book, or the refusal; 0 to 0 where there is none.
 pub fn find_record(s: &[u8], job: usize) -> Found
     ensures { λ r. ⌜ r ≡ foundIn (now (s .entry)) job ⌝ }
 {
-    let b = read_book(s);
+    let b = judge(s);
     if 0 < b.number {
         return found_at(b.number, b.place, 0, 0);
     }
     if b.jobs <= job {
         return found_at(0, 0, 0, 0);
     }
-    let spans = b.spans;
-    let span = span_at(spans, job);
-    found_at(0, 0, span.start, span.end)
+    found_at(0, 0, b.starts[job], b.starts[job + 1])
 }
 
 fn part<'a>(s: &'a [u8], start: usize, end: usize) -> &'a [u8]

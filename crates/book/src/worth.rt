@@ -1,7 +1,7 @@
 // What the bytes of one curve are worth at a moment (02, R-4): from its piece count to its termination, and nothing after it.
 ghost use mathlib.Core.Path.{_≡_};
 ghost use Rattle.book.specs.CurveWorth.{curveWorth};
-use crate::judge::curve_judged;
+use crate::pieces::curve_judged;
 use crate::reader::tail;
 use cursor::Reading;
 use curve::question::worth_at;

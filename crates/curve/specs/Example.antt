@@ -12,6 +12,7 @@ use Rattle.curve.specs.declared.Curve.{Curve}
 use Rattle.curve.specs.Worth.{noPiece, lineAt, worthIn, worthAt}
 use Rattle.curve.specs.Layout.{signedOf, curveAt}
 use Rattle.curve.specs.Question.{standsAt, worthFrom}
+use Rattle.curve.specs.Before.{worthBack, worthBefore}
 use Rattle.curve.specs.Bound.{InRange, pieceOf, endOf, Allowed}
 
 abbrev sample : Curve
@@ -71,3 +72,17 @@ asked = refl
 cut : worthFrom (take 26 bytes) 2 13 ≡ pos 0
 unfolding worthFrom standsAt worthAt worthIn listed upto valueAt signedOf
 cut = refl
+
+-- asked at its termination with both its pieces, with the last alone, with none; and a byte too far on, where it is cut
+asked-back : map (λ n. worthBefore bytes 23 n 13) (2 ∷ 1 ∷ 0 ∷ []) ≡ pos 94 ∷ pos 0 ∷ pos 0 ∷ []
+unfolding worthBefore worthBack valueAt signedOf
+asked-back = refl
+
+cut-back : worthBefore bytes 24 2 13 ≡ pos 0
+unfolding worthBefore worthBack valueAt signedOf
+cut-back = refl
+
+-- and where the bytes begin before its pieces do
+short-back : worthBefore bytes 3 1 0 ≡ pos 0
+unfolding worthBefore worthBack valueAt signedOf
+short-back = refl

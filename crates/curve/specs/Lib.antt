@@ -3,6 +3,7 @@ pub mod Walk
 pub mod Layout
 pub mod Twos
 pub mod Question
+pub mod Before
 pub mod Density
 pub mod Bound
 pub mod Example

@@ -7,6 +7,7 @@ ghost use Rattle.cursor.specs.Field.{valueAt};
 ghost use Rattle.curve.specs.Worth.{worthIn};
 ghost use Rattle.curve.specs.Layout.{pieceAt, piecePlace, curveAt};
 ghost use Rattle.curve.specs.Question.{worthFrom};
+ghost use Rattle.curve.specs.Before.{worthBack, worthBefore};
 use crate::Piece;
 use crate::fields::piece_from;
 use crate::line_at;
@@ -68,4 +69,42 @@ pub fn worth_at(s: &[u8], place: usize, t: u32) -> i64
         return 0;
     }
     worth_in(s, place, end, t)
+}
+
+fn worth_back(s: &[u8], end: usize, pieces: usize, t: u32) -> i64
+    requires { ⌜ end ≤ length (now s) ⌝ }
+    ensures { λ r. ⌜ r ≡ worthBack (now (s .entry)) end t pieces ⌝ }
+{
+    let mut place = end;
+    let mut left = pieces;
+    while 0 < left {
+        if place < 10 {
+            return 0;
+        }
+        place -= 10;
+        left -= 1;
+        let piece = piece_at(s, place);
+        if piece.start <= t {
+            return line_at(piece, t);
+        }
+    }
+    0
+}
+
+// Of the curve whose termination stands at `end`, with so many pieces before it: for a caller that knows both, so that nothing is read
+// twice.
+pub fn worth_before(s: &[u8], end: usize, pieces: usize, t: u32) -> i64
+    ensures { λ r. ⌜ r ≡ worthBefore (now (s .entry)) end pieces t ⌝ }
+{
+    if s.len() < 4 {
+        return 0;
+    }
+    if s.len() - 4 < end {
+        return 0;
+    }
+    let until = field_there(s, end, 4);
+    if until < t as usize {
+        return 0;
+    }
+    worth_back(s, end, pieces, t)
 }

@@ -21,7 +21,7 @@ use Rattle.invariants.specs.Holders.{holder, holder-is, holder-free}
 use Rattle.invariants.specs.Runs.{Runs, last, next}
 use Rattle.invariants.specs.Tally.{bit, bit-most, tally, tally-after, tally-most}
 use Rattle.invariants.specs.Left.{countLeft, count-most, count-after, count-last}
-use Rattle.invariants.specs.Points.{sumTo, point, point-same, point-other, sum-le, sum-most, points-out, points-in}
+use Rattle.laws.specs.Points.{sumTo, point, point-same, point-other, sum-le, sum-most, points-out, points-in}
 
 abbrev heldBit : List Job → ℕ → ℕ
 heldBit js r = bit (ltb (holderOf js r) 32)

@@ -12,7 +12,7 @@ use Rattle.gus.specs.Waits.{waitsFor}
 use Rattle.gus.specs.Victims.{settled}
 use Rattle.invariants.specs.Sound.{Sound}
 use Rattle.invariants.specs.Waiting.{holder-past}
-use Rattle.invariants.specs.Among.{among-or-not}
+use Rattle.laws.specs.Among.{among-or-not}
 use Rattle.invariants.specs.Settled.{settled-other, settled-back, holder-settled}
 
 module _ {js : List Job} (s : Sound js) (is : List ℕ) where

@@ -11,7 +11,6 @@ pub mod Replay
 pub mod Paid
 pub mod Tally
 pub mod Left
-pub mod Points
 pub mod Burden
 pub mod Denser
 pub mod Winner
@@ -25,8 +24,6 @@ pub mod Circles
 pub mod Victim
 pub mod Knot
 pub mod CircleJobs
-pub mod Among
-pub mod Rising
 pub mod Victims
 pub mod Settled
 pub mod Sent

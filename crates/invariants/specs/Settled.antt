@@ -13,7 +13,7 @@ use Rattle.gus.specs.State.{vacant, jobAt}
 use Rattle.gus.specs.Waits.{holderOf}
 use Rattle.gus.specs.Victims.{sentBack, settled}
 use Rattle.invariants.specs.Holders.{holder-same}
-use Rattle.invariants.specs.Among.{Among, among-or-not}
+use Rattle.laws.specs.Among.{Among, among-or-not}
 
 pub settled-size : (js : List Job) (is : List ℕ) → length (settled js is) ≡ length js
 unfolding settled

@@ -13,7 +13,7 @@ use Rattle.gus.specs.View.{Pay, viewOf}
 use Rattle.gus.specs.Victims.{victimsOf, knotOf, sentBack, settled}
 use Rattle.invariants.specs.Sound.{Sound}
 use Rattle.invariants.specs.Waiting.{Ready}
-use Rattle.invariants.specs.Among.{among-or-not}
+use Rattle.laws.specs.Among.{among-or-not}
 use Rattle.invariants.specs.Victims.{victims-on, victims-each}
 use Rattle.invariants.specs.Sent.{Sent, ready-sent}
 use Rattle.invariants.specs.Settled.{settled-size, settled-other, settled-back}

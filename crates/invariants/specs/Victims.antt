@@ -17,8 +17,8 @@ use Rattle.gus.specs.Victims.{circleOf, victimOf, victimsTo, victimsOf, knotOf}
 use Rattle.invariants.specs.Circles.{circle-met, circle-below, lowest-lowest, same-circle}
 use Rattle.invariants.specs.Victim.{Candidate, victim-is}
 use Rattle.invariants.specs.Knot.{knot-none}
-use Rattle.invariants.specs.Rising.{Rising, rising-append}
-use Rattle.invariants.specs.Among.{Among, among-front, among-back, among-either, among-at}
+use Rattle.laws.specs.Rising.{Rising, rising-append}
+use Rattle.laws.specs.Among.{Among, among-front, among-back, among-either, among-at}
 
 -- x where it is so
 abbrev only : ℕ → Bool → List ℕ

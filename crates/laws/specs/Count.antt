@@ -1,5 +1,5 @@
 -- A loop that counts i up to n and keeps b: b becomes f i b.
-use Prim.Native.Nat.{ℕ, zero, suc, _+_, _<_, _≤_}
+use Prim.Native.Nat.{ℕ, zero, suc, _+_, _-_, _<_, _≤_}
 use native.Mathlib.Numerals.{add-one}
 use native.Mathlib.Omega.{arith}
 use mathlib.Core.Path.{_≡_, refl, ap, _∙_}
@@ -15,6 +15,16 @@ pub upto-each : {B : Type 0} (P : ℕ → B → Type 0) (f : ℕ → B → B) (n
 unfolding upto
 upto-each P f n b first next zero h = first
 upto-each P f n b first next (suc m) h = next m h (upto-each P f n b first next m (omega arith))
+
+-- Turns that change nothing from the n-th on: any number of them that is at least n will do.
+pub upto-idle : {B : Type 0} (f : ℕ → B → B) (n m : ℕ) (b : B) → n ≤ m → ((i : ℕ) (x : B) → n ≤ i → f i x ≡ x) → upto f m b ≡ upto f n b
+unfolding upto
+upto-idle {B} f n m b h idle = by (m - n) m (omega arith)
+  where
+    by : (k m : ℕ) → m ≡ n + k → upto f m b ≡ upto f n b
+    by zero m e = let same : m ≡ n = omega arith in ap (λ (i : ℕ). upto f i b) same
+    by (suc k) zero e = absurd (omega arith)
+    by (suc k) (suc m) e = idle m (upto f m b) (omega arith) ∙ by k m (omega arith)
 
 pub record Counting {B : Type 0} (f : ℕ → B → B) (n : ℕ) (b₀ b : B) (i : ℕ) : Type 0 where
   pub within : i ≤ n

@@ -3,7 +3,7 @@ use Prim.Native.Nat.{ℕ, zero, suc, _+_, _<_, _≤_}
 use native.Mathlib.Nat.{not-suc-le-zero, le-of-suc-le-suc}
 use native.Mathlib.Numerals.{add-one}
 use native.Mathlib.Omega.{arith}
-use mathlib.Core.Path.{_≡_, refl, ap, _∙_}
+use mathlib.Core.Path.{_≡_, refl, sym, ap, _∙_}
 use mathlib.Core.List.{List, [], _∷_, map}
 use lib.ListN.{length, getD, set}
 
@@ -37,6 +37,13 @@ module _ {A : Type 0} where
   whole f (suc n) [] h = refl
   whole f (suc n) (x ∷ l) h = ap {B = List A} (λ t. f 0 x ∷ t) (whole (λ k. f (suc k)) n l (le-of-suc-le-suc h))
 
+  -- So will any number of them, where turns from there on leave each value as it is.
+  pub whole-idle : (f : ℕ → A → A) (n : ℕ) (l : List A) (d : A) → ((i : ℕ) → n ≤ i → i < length l → f i (getD l i d) ≡ getD l i d) → done f n l ≡ mapIx f l
+  whole-idle f zero [] d idle = refl
+  whole-idle f zero (x ∷ l) d idle = λ k. sym (idle 0 (omega arith) (omega arith)) k ∷ whole-idle (λ k. f (suc k)) zero l d (λ i p q. idle (suc i) (omega arith) (omega arith)) k
+  whole-idle f (suc n) [] d idle = refl
+  whole-idle f (suc n) (x ∷ l) d idle = ap {B = List A} (λ t. f 0 x ∷ t) (whole-idle (λ k. f (suc k)) n l d (λ i p q. idle (suc i) (omega arith) (omega arith)))
+
   pub length-mapIx : (f : ℕ → A → A) (l : List A) → length (mapIx f l) ≡ length l
   length-mapIx f [] = refl
   length-mapIx f (x ∷ l) = ap suc (length-mapIx (λ k. f (suc k)) l)
@@ -66,6 +73,9 @@ module _ {A : Type 0} {f : ℕ → A → A} {n : ℕ} {l : List A} where
 
   pub ended-ix : {a : List A} {i : ℕ} → Doing f n l a i → n ≤ i → a ≡ mapIx f l
   ended-ix {i = i} p h = p .so-far ∙ whole f i l (omega arith)
+
+  pub ended-idle : {a : List A} {i : ℕ} (d : A) → Doing f n l a i → ((k : ℕ) → i ≤ k → k < n → f k (getD l k d) ≡ getD l k d) → a ≡ mapIx f l
+  ended-idle {i = i} d p idle = p .so-far ∙ whole-idle f i l d (λ k h q. idle k h (omega arith))
 
 pub ended : {A : Type 0} {f : A → A} {n : ℕ} {l a : List A} {i : ℕ} → Doing (λ k. f) n l a i → n ≤ i → a ≡ map f l
 ended {f = f} {l = l} p h = ended-ix p h ∙ mapIx-plain f l

@@ -6,6 +6,11 @@ pub mod Fill
 pub mod Stores
 pub mod Search
 pub mod Listed
+pub mod Among
+pub mod Points
+pub mod Rising
+pub mod Placed
+pub mod Holders
 pub mod Walk
 pub mod Circle
 pub mod Rewire

@@ -17,13 +17,10 @@ use Rattle.book.specs.declared.Entry.{Entry}
 use Rattle.book.specs.declared.Record.{Record}
 use Rattle.book.specs.Format.{noEntry}
 use Rattle.invariants.specs.Vacant.{vacant-free}
-use Rattle.opening.specs.Start.{withEntry, heldFrom, jobFrom}
+use Rattle.opening.specs.Start.{heldBy, withEntry, heldFrom, jobFrom}
 
 abbrev pub entryAt : Record → ℕ → Entry
 entryAt x k = getD (x .held) k noEntry
-
-abbrev heldBy : Entry → Held
-heldBy e = record { hold = e .hold; rollback = e .rollback }
 
 -- the entries are at most 32, for resources below 32, of which none is named twice
 pub record Apart (x : Record) : Type 0 where

@@ -7,7 +7,7 @@ use lib.ListN.{length, getD}
 use Rattle.job.specs.Job.{holdOf}
 use Rattle.job.specs.Fit.{held-below}
 use Rattle.book.specs.declared.Book.{Book}
-use Rattle.accepted.specs.Holders.{getD-any}
+use Rattle.laws.specs.Inside.{inside}
 use Rattle.accepted.specs.Good.{Good}
 use Rattle.gus.specs.State.{jobAt}
 use Rattle.gus.specs.Waits.{holderOf}
@@ -21,7 +21,7 @@ module _ {b : Book} (g : Good b) where
   held-by i r h =
       let x = holds-entry g i r h in
       let room : r < length (b .holders) = omega (arith, g .holders-size, held-below (sound-from g .fit i) r h) in
-      getD-any (b .holders) r 255 0 room ∙ ap (λ (z : ℕ). getD (b .holders) z 0) (sym (x .2)) ∙ g .holder i (x .0) (x .1)
+      inside (b .holders) r 255 0 room ∙ ap (λ (z : ℕ). getD (b .holders) z 0) (sym (x .2)) ∙ g .holder i (x .0) (x .1)
 
   -- for every resource, also past the last
   pub holders-agree : (r : ℕ) → getD (b .holders) r 255 ≡ holderOf (jobsFrom b) r

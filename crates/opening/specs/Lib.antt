@@ -1,7 +1,10 @@
 pub mod Start
+pub mod Taken
+pub mod Sought
 pub mod Held
 pub mod Fit
 pub mod Sound
+pub mod TakenRight
 pub mod Holders
 pub mod Falls
 pub mod Small

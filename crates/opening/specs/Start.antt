@@ -16,9 +16,12 @@ use Rattle.book.specs.Format.{noEntry, noRecord}
 use Rattle.gus.specs.State.{vacant}
 use Rattle.gus.specs.View.{Pay}
 
+abbrev pub heldBy : Entry → Held
+heldBy e = record { hold = e .hold; rollback = e .rollback }
+
 -- one line of a held list, laid at its resource's number; a resource past the last changes nothing
 abbrev pub withEntry : Entry → List Held → List Held
-withEntry e held = set held (e .resource) (record { hold = e .hold; rollback = e .rollback })
+withEntry e held = set held (e .resource) (heldBy e)
 
 abbrev pub entryLaid : Record → ℕ → List Held → List Held
 entryLaid x i held = withEntry (getD (x .held) i noEntry) held

@@ -1,157 +1,208 @@
--- From the jobs of a book to its answer: knot, victims, rounds.
-use mathlib.Core.Path.{_≡_, refl, sym, ap, subst, _∙_}
-use mathlib.Core.List.{List, map}
+-- From the prepared sheet to the answer: KNOT, the rounds, or the first part.
+use mathlib.Core.Path.{_≡_, refl, sym, ap, _∙_}
+use mathlib.Core.List.{List, [], _∷_}
 use Prim.Native.Nat.{ℕ, _<_, _≤_}
 use native.Mathlib.Omega.{arith}
 use borrow.Author.Tests.{lt-ltb, le-ltb}
-use lib.IntN.{natAbs}
+use lib.Dec.{ltb}
+use lib.ListN.{length, getD}
+use Rattle.laws.specs.Fill.{padded}
 use Rattle.job.specs.declared.Job.{Job}
 use Rattle.book.specs.declared.Book.{Book}
 use Rattle.cursor.specs.Refusal.{KNOT}
 use Rattle.book.specs.Format.{bookOf}
-use Rattle.gus.specs.View.{Pay, View, viewOf}
-use Rattle.gus.specs.Choice.{Way}
+use Rattle.gus.specs.declared.Part.{Part}
+use Rattle.gus.specs.View.{viewOf}
+use Rattle.gus.specs.Choice.{byDensity}
+use Rattle.gus.specs.Group.{Group}
 use Rattle.gus.specs.Round.{rounds}
 use Rattle.gus.specs.Victims.{victimsOf, knotOf, settled}
 use Rattle.gus.specs.Plan.{answerTo}
-use Rattle.invariants.specs.Sound.{Sound}
+use Rattle.invariants.specs.Waiting.{Ready}
 use Rattle.invariants.specs.Start.{ready-settled}
 use Rattle.invariants.specs.Settled.{holder-settled}
 use Rattle.invariants.specs.End.{Small}
-use Rattle.opening.specs.Start.{jobFrom, jobsFrom, payFrom}
-use Rattle.opening.specs.Modest.{Modest, modest}
+use Rattle.opening.specs.Start.{jobsFrom, payFrom}
 use Rattle.opening.specs.Small.{small-settled}
 use Rattle.opening.specs.Opened.{accepted-opened}
-use Rattle.planner.specs.declared.State.{State}
-use Rattle.planner.specs.declared.Links.{Links}
+use Rattle.opening.specs.Planned.{viewFrom, startFrom}
+use Rattle.opening.specs.declared.State.{State}
 use Rattle.planner.specs.declared.Victims.{Victims}
-use Rattle.planner.specs.declared.Stage.{Stage}
+use Rattle.planner.specs.declared.GroupParts.{GroupParts}
+use Rattle.planner.specs.declared.PlanParts.{PlanParts}
 use Rattle.planner.specs.declared.Planned.{Planned}
-use Rattle.planner.specs.declared.Opened.{Opened}
-use Rattle.planner.specs.Seen.{paid, seen}
-use Rattle.planner.specs.Table.{table}
-use Rattle.planner.specs.Places.{placeFor, place-pay}
-use Rattle.planner.specs.Offering.{seenWaits}
-use Rattle.planner.specs.Laid.{laid}
-use Rattle.planner.specs.LaidView.{laid-view}
+use Rattle.planner.specs.declared.FirstPart.{FirstPart}
+use Rattle.book.specs.declared.Judged.{Judged}
+use Rattle.book.specs.Judged.{judgedOf}
+use Rattle.accepted.specs.Spans.{starts-at}
+use Rattle.opening.specs.Taken.{stateIn}
+use Rattle.opening.specs.TakenRight.{state-taken}
+use Rattle.planner.specs.Standing.{Accepted}
+use Rattle.planner.specs.Sheet.{seen}
+use Rattle.planner.specs.Rows.{Idle}
+use Rattle.planner.specs.Idling.{idle-settled}
+use Rattle.planner.specs.Asking.{Scanning}
+use Rattle.planner.specs.LaidOut.{emptyPart, laidOut}
+use Rattle.planner.specs.Round.{roundOf}
 use Rattle.planner.specs.Listing.{listed}
-use Rattle.planner.specs.Settling.{Handed, victimsIn}
-use Rattle.planner.specs.Handing.{modest-for-victims, same-listed, listed-victims, listed-handed}
-use Rattle.planner.specs.Holding.{Holding, agreeing}
+use Rattle.planner.specs.Settling.{victimsIn}
 use Rattle.planner.specs.Fitting.{Sane}
 use Rattle.planner.specs.Staged.{Rounded}
-use Rattle.planner.specs.Planned.{laidPlan, refusedPlan, answeredTo, plannedTo}
+use Rattle.planner.specs.Shown.{payIn, shown-round}
+use Rattle.planner.specs.Working.{Starting}
+use Rattle.planner.specs.Planned.{laidPlan, refusedPlan, answeredTo, plannedTo, plannedOf}
+use Rattle.planner.specs.First.{firstIn, firstOf, firstMade, firstBy, refusedFirst, one-round}
+use Rattle.planner.specs.Preparing.{Prepared, idle-from, standing, now-is, jobs-are, jobs-few, prepared-scanning, settled-is}
 
--- the jobs of an accepted book, before the victims are found
-pub record Accepted (pay : Pay) (s : State) (moment : ℕ) : Type 0 where
-  pub sound : Sound (s .jobs)
-  pub small : Small (s .jobs)
-  pub holding : Holding s
-  pub worth : (i t : ℕ) → natAbs (pay i t) ≤ 1000000
-  pub now : moment ≤ 2147483647
-
--- the answer that the victims and the last stage make
-abbrev pub planIn : Victims → Stage → Planned
-planIn v s = record {
+-- the answer that the victims and the rounds make
+abbrev pub planIn : Victims → PlanParts → Planned
+planIn v p = record {
   number = 0;
   place = 0;
   victims = v .list;
   victimcount = v .count;
-  parts = s .parts;
-  count = s .count;
-  rounds = s .rounds;
-  total = s .total;
-  end = s .moment;
+  parts = p .parts;
+  count = p .count;
+  rounds = p .rounds;
+  total = p .total;
+  end = p .moment;
 }
 
--- the victims by the lent arrays are those of the jobs
-module _ (bytes places : List ℕ) {s : State} {now : ℕ} {l : Links} (a : Accepted (paid bytes places) s now) (e : l ≡ laid s) where
-  laid-is : seen bytes places (l .run) (l .rollback) (l .hold) (l .undo) (l .rolling) (l .left) (l .waits) ≡ viewOf (paid bytes places) (s .jobs)
-  laid-is = rw e (laid-view s (agreeing (a .sound) (a .holding)) bytes places)
+-- a book without a knot, prepared for its first round
+pub record Cleared (s : List ℕ) (j : Judged) (sheet asks : List ℕ) (v : Victims) : Type 0 where
+  pub accepted : Accepted s j
+  pub prepared : Prepared s sheet asks v
+  pub free : 32 ≤ v .knot
 
-  pub waits-modest : Modest (seenWaits bytes places (l .run) (l .rollback) (l .waits))
-  waits-modest = modest-for-victims {v = seen bytes places (l .run) (l .rollback) (l .hold) (l .undo) (l .rolling) (l .left) (l .waits)} (rw laid-is (modest (paid bytes places) (a .worth) (a .sound) (a .small)))
+-- the first part of a round's group
+abbrev pub firstFrom : GroupParts → FirstPart
+firstFrom g = record { number = 0; place = 0; some = ltb 0 (g .count); part = getD (g .parts) 0 emptyPart }
 
-  pub victims-are : {v : Victims} → v ≡ listed (seenWaits bytes places (l .run) (l .rollback) (l .waits)) now → v ≡ listed (viewOf (paid bytes places) (s .jobs)) now
-  victims-are d = d ∙ same-listed (seen bytes places (l .run) (l .rollback) (l .hold) (l .undo) (l .rolling) (l .left) (l .waits)) now ∙ ap (λ (v : View). listed v now) laid-is
+laid-first : (g : Group) → firstFrom (laidOut g) ≡ firstOf (g .parts)
+unfolding laidOut firstOf padded
+laid-first g = by (g .parts)
+  where
+    by : (ps : List Part) → record { number = 0; place = 0; some = ltb 0 (length ps); part = getD (padded 32 emptyPart ps) 0 emptyPart } ≡ firstOf ps
+    by [] = refl
+    by (p ∷ ps) = rw (lt-ltb 0 (length (p ∷ ps)) (omega arith))
 
-module _ (pay : Pay) (s : State) (now : ℕ) {v : Victims} (e : v ≡ listed (viewOf pay (s .jobs)) now) where
-  pub victims-handed : Handed v
-  victims-handed = rw e (listed-handed (viewOf pay (s .jobs)) now)
+-- the reader's refusal
+module _ (s : List ℕ) {j : Judged} (e : j ≡ judgedOf s) where
+  number-is : j .number ≡ bookOf s .number
+  unfolding judgedOf
+  number-is = ap (λ (x : Judged). x .number) e
 
-  pub knotted : (n : ℕ) (way : Way) {r : Planned} → v .knot < 32 → r ≡ refusedPlan KNOT (v .knot) → r ≡ answeredTo n way pay (s .jobs) now
-  unfolding answeredTo listed
-  knotted n way h q = let k = ap (λ (x : Victims). x .knot) e in rw (lt-ltb _ 32 (rw k at h), answeredTo) (q ∙ ap (refusedPlan KNOT) k)
+  place-is : j .place ≡ bookOf s .place
+  unfolding judgedOf
+  place-is = ap (λ (x : Judged). x .place) e
 
-  module _ (a : Accepted pay s now) (none : 32 ≤ v .knot) {js : List Job} (q : js ≡ settled (s .jobs) (victimsIn v)) where
-    settled-is : js ≡ settled (s .jobs) (victimsOf (viewOf pay (s .jobs)) now)
-    settled-is = q ∙ ap (λ (x : Victims). settled (s .jobs) (victimsIn x)) e ∙ ap (settled (s .jobs)) (listed-victims (viewOf pay (s .jobs)) now)
+  pub judged-accepted : j .number ≤ 0 → Accepted s j
+  judged-accepted h = record { judged = e; accepted = omega (arith, number-is) }
 
-    free : 32 ≤ knotOf (viewOf pay (s .jobs)) now
-    unfolding listed
-    free = rw (ap (λ (x : Victims). x .knot) e) at none
-
-    pub settled-sane : Sane pay (record { jobs = js; holders = s .holders })
-    settled-sane = rw settled-is (record {
-      ready = ready-settled pay now (a .sound) free;
-      small = small-settled (a .small) (victimsOf (viewOf pay (s .jobs)) now);
-      holding = record { size = a .holding .size; agree = λ r h. a .holding .agree r h ∙ sym (holder-settled (s .jobs) (victimsOf (viewOf pay (s .jobs)) now) r) };
-      worth = a .worth;
-    })
-
-    pub planned-is : (n : ℕ) (way : Way) {t : Stage} {r : Planned} → Rounded (rounds n way pay js now) t → r ≡ planIn v t → r ≡ answeredTo n way pay (s .jobs) now
-    unfolding answeredTo laidPlan answerTo listed
-    planned-is n way {t} d p =
-        let z : Rounded (rounds n way pay (settled (s .jobs) (victimsOf (viewOf pay (s .jobs)) now)) now) t = rw settled-is at d in
-        rw (le-ltb (knotOf (viewOf pay (s .jobs)) now) 32 free, answeredTo)
-        (p ∙ (λ j. record {
-          number = 0;
-          place = 0;
-          victims = e j .list;
-          victimcount = e j .count;
-          parts = z .parts j;
-          count = z .count j;
-          rounds = z .rounds j;
-          total = z .total j;
-          end = z .end j;
-        }))
-
--- what is taken from a book before it is let go
-pub record Taken (s : List ℕ) (b : Book) (o : Opened) : Type 0 where
-  pub number : o .number ≡ b .number
-  pub place : o .place ≡ b .place
-  pub now : o .now ≡ b .now
-  pub jobs : o .state .jobs ≡ jobsFrom b
-  pub holders : o .state .holders ≡ b .holders
-  pub places : o .places ≡ table (placeFor s b) 32
-
-pub taken : {s : List ℕ} {b b′ : Book} {jobs : List Job} {places : List ℕ}
-    → b ≡ b′
-    → jobs ≡ map jobFrom (b .records)
-    → places ≡ table (placeFor s b) 32
-    → Taken s b′ (record { number = b .number; place = b .place; now = b .now; state = record { jobs = jobs; holders = b .holders }; places = places })
-taken e j p = rw (← e) (record { number = refl; place = refl; now = refl; jobs = j; holders = refl; places = p })
-
-module _ (s : List ℕ) {o : Opened} (t : Taken s (bookOf s) o) where
-  pub refused : (n : ℕ) (way : Way) {r : Planned} → 0 < o .number → r ≡ refusedPlan (o .number) (o .place) → r ≡ plannedTo n way s
+  pub refused-plan : {r : Planned} → 0 < j .number → r ≡ refusedPlan (j .number) (j .place) → r ≡ plannedOf s
   unfolding plannedTo
-  refused n way h q = rw (lt-ltb 0 (bookOf s .number) (omega (arith, t .number)), plannedTo) (q ∙ (λ j. refusedPlan (t .number j) (t .place j)))
+  refused-plan h q = rw (lt-ltb 0 (bookOf s .number) (omega (arith, number-is)), plannedTo) (q ∙ (λ k. refusedPlan (number-is k) (place-is k)))
 
-  module _ (h : o .number ≤ 0) where
-    pay-is : paid s (o .places) ≡ payFrom (bookOf s)
-    pay-is = ap (paid s) (t .places) ∙ place-pay s (omega (arith, t .number))
+  pub refused-first : {r : FirstPart} → 0 < j .number → r ≡ refusedFirst (j .number) (j .place) → r ≡ firstBy byDensity s
+  unfolding firstBy
+  refused-first h q = rw (lt-ltb 0 (bookOf s .number) (omega (arith, number-is)), firstBy) (q ∙ (λ k. refusedFirst (number-is k) (place-is k)))
 
-    pub taken-accepted : Accepted (paid s (o .places)) (o .state) (o .now)
-    taken-accepted =
-        let g = accepted-opened s (omega (arith, t .number)) in
+pub first-is : (s : List ℕ) {r : FirstPart} → r ≡ firstBy byDensity s → r ≡ firstIn (plannedOf s)
+first-is s e = e ∙ sym (one-round byDensity 31 s)
+
+-- what the rounds start from
+abbrev pub firstState : List ℕ → State
+firstState s = record { jobs = startFrom (bookOf s); holders = bookOf s .holders }
+
+-- the jobs opened where their records stand, and then settled
+pub state-made : (s : List ℕ) {j : Judged} → Accepted s j → {v : Victims} → v ≡ listed (viewFrom (bookOf s)) (bookOf s .now) → {opened state : State} → opened ≡ stateIn s (j .starts) (j .holders) (j .jobs) → state ≡ record { jobs = settled (opened .jobs) (victimsIn v); holders = opened .holders } → state ≡ firstState s
+state-made s {j} a {v} e {opened} o q =
+    let w = standing s a in
+    let b : Book = bookOf s in
+    let opened-is : opened ≡ record { jobs = jobsFrom b; holders = b .holders } = o ∙ (λ k. stateIn s (w .starts-are k) (w .holders-are k) (w .jobs-are k)) ∙ state-taken s (a .accepted) _ (starts-at s (a .accepted)) in
+    q ∙ ap (λ (x : State). record { jobs = settled (x .jobs) (victimsIn v); holders = x .holders }) opened-is
+    ∙ ap (λ (js : List Job). record { jobs = js; holders = b .holders }) (settled-is s a e)
+
+module _ (s : List ℕ) {j : Judged} (a : Accepted s j) {sheet asks : List ℕ} {v : Victims} (p : Prepared s sheet asks v) where
+  abbrev b : Book
+  b = bookOf s
+
+  accepted : bookOf s .number ≤ 0
+  accepted = omega (arith, a .accepted)
+
+  knot-is : v .knot ≡ knotOf (viewFrom b) (b .now)
+  unfolding listed
+  knot-is = ap (λ (x : Victims). x .knot) (p .victims)
+
+  pub knotted-plan : {r : Planned} → v .knot < 32 → r ≡ refusedPlan KNOT (v .knot) → r ≡ plannedOf s
+  unfolding plannedTo answeredTo
+  knotted-plan h q = rw (le-ltb 0 (b .number) accepted, plannedTo, lt-ltb (knotOf (viewFrom b) (b .now)) 32 (rw knot-is at h), answeredTo) (q ∙ ap (refusedPlan KNOT) knot-is)
+
+  pub knotted-first : {r : FirstPart} → v .knot < 32 → r ≡ refusedFirst KNOT (v .knot) → r ≡ firstBy byDensity s
+  unfolding firstBy
+  knotted-first h q = rw (le-ltb 0 (b .number) accepted, lt-ltb (knotOf (viewFrom b) (b .now)) 32 (rw knot-is at h), firstBy) (q ∙ ap (refusedFirst KNOT) knot-is)
+
+  module _ (none : 32 ≤ v .knot) where
+    free : 32 ≤ knotOf (viewFrom b) (b .now)
+    free = rw knot-is at none
+
+    starts : Ready (startFrom b)
+    starts = ready-settled (payFrom b) (b .now) (accepted-opened s (a .accepted) .sound) free
+
+    small : Small (startFrom b)
+    small = small-settled (accepted-opened s (a .accepted) .small) (victimsOf (viewFrom b) (b .now))
+
+    idle : Idle (b .jobs) (startFrom b)
+    idle = idle-settled (idle-from s (a .accepted)) (victimsOf (viewFrom b) (b .now))
+
+    sane : Sane (payIn s) (record { jobs = startFrom b; holders = b .holders })
+    sane =
+        let o = accepted-opened s (a .accepted) in
         record {
-          sound = rw (t .jobs) (g .sound);
-          small = rw (t .jobs) (g .small);
-          holding = record { size = rw (t .holders) (g .holders-size); agree = λ r l. rw (t .jobs, t .holders) (g .holders r) };
-          worth = λ i t′. subst (λ (pay : Pay). natAbs (pay i t′) ≤ 1000000) (sym pay-is) (g .worth i t′);
-          now = omega (arith, t .now, g .now);
+          ready = starts;
+          small = small;
+          holding = record { size = o .holders-size; agree = λ r h. o .holders r ∙ sym (holder-settled (jobsFrom b) (victimsOf (viewFrom b) (b .now)) r) };
+          worth = o .worth;
         }
 
-    pub accepted : (n : ℕ) (way : Way) {r : Planned} → r ≡ answeredTo n way (paid s (o .places)) (o .state .jobs) (o .now) → r ≡ plannedTo n way s
-    unfolding plannedTo
-    accepted n way q = rw (le-ltb 0 (bookOf s .number) (omega (arith, t .number)), plannedTo) (q ∙ (λ j. answeredTo n way (pay-is j) (t .jobs j) (t .now j)))
+    -- the first round
+    pub round-scanning : Scanning (seen s sheet) (j .jobs) (j .now)
+    round-scanning = prepared-scanning s a (starts .sound) small idle (p .rows none)
+
+    pub first-found : {g : GroupParts} {r : FirstPart} → g ≡ laidOut (roundOf byDensity (seen s sheet) (j .now)) → r ≡ firstFrom g → r ≡ firstBy byDensity s
+    unfolding firstBy firstMade
+    first-found {g} {r} e q =
+        let h = shown-round s (a .accepted) (starts .sound) (p .rows none) byDensity (j .now) e in
+        rw (le-ltb 0 (b .number) accepted, le-ltb (knotOf (viewFrom b) (b .now)) 32 free, firstBy)
+        (q ∙ ap firstFrom h ∙ laid-first (roundOf byDensity (viewOf (payIn s) (startFrom b)) (j .now)) ∙ ap (λ (t : ℕ). firstOf (roundOf byDensity (viewOf (payIn s) (startFrom b)) t .parts)) (now-is s a))
+
+    -- the rounds
+    module _ {state : State} (state-is : state ≡ firstState s) where
+      pub rounds-start : Starting s state sheet asks (j .jobs) (j .now)
+      rounds-start = rw state-is (record {
+        accepted = a .accepted;
+        sane = sane;
+        idle = rw (jobs-are s a) idle;
+        few = jobs-few s a;
+        rows = p .rows none;
+        now = omega (arith, now-is s a, accepted-opened s (a .accepted) .now);
+      })
+
+      pub planned-is : {t : PlanParts} → Rounded (rounds 32 byDensity (payIn s) (state .jobs) (j .now)) t → planIn v t ≡ plannedOf s
+      unfolding plannedTo answeredTo laidPlan answerTo listed
+      planned-is {t} d =
+          let js : state .jobs ≡ startFrom b = ap (λ (x : State). x .jobs) state-is in
+          let z : Rounded (rounds 32 byDensity (payIn s) (startFrom b) (b .now)) t = rw (← js, ← now-is s a) d in
+          let l = p .victims in
+          rw (le-ltb 0 (b .number) accepted, plannedTo, le-ltb (knotOf (viewFrom b) (b .now)) 32 free, answeredTo)
+          (λ k. record {
+            number = 0;
+            place = 0;
+            victims = l k .list;
+            victimcount = l k .count;
+            parts = z .parts k;
+            count = z .count k;
+            rounds = z .rounds k;
+            total = z .total k;
+            end = z .end k;
+          })

@@ -12,7 +12,7 @@ use Rattle.job.specs.Held.{free}
 use Rattle.gus.specs.declared.Part.{Part}
 use Rattle.gus.specs.State.{workedBy, after, afterAll}
 use Rattle.gus.specs.Waits.{nobody}
-use Rattle.planner.specs.declared.State.{State}
+use Rattle.opening.specs.declared.State.{State}
 
 -- who holds a resource after a part of a job that then has this hold of it:
 -- that job where it has one; nobody where it had one and gave it up; else whoever held it

@@ -11,8 +11,8 @@ use Rattle.job.specs.declared.Job.{Job}
 use Rattle.job.specs.Job.{noJob, worked}
 use Rattle.gus.specs.declared.Part.{Part}
 use Rattle.gus.specs.State.{vacant}
-use Rattle.gus.specs.State.{afterAll}
-use Rattle.planner.specs.declared.State.{State}
+use Rattle.gus.specs.State.{workedBy, afterAll}
+use Rattle.opening.specs.declared.State.{State}
 use Rattle.planner.specs.Applied.{holdersAfter, holdersAll, afterPart, afterParts, noPart}
 
 -- The loop's whole invariant, after i parts: those left lead from s to where all lead from s₀.
@@ -40,3 +40,12 @@ pub made : (s : State) (p : Part) {number : ℕ} {j : Job} {holders : List ℕ}
     → holders ≡ holdersAfter (p .job) (j .held) (s .holders)
     → _≡_ {A = State} (record { jobs = set (s .jobs) number j; holders = holders }) (afterPart s p)
 made s p lt size n w h = rw (h, w, n, inside (s .jobs) (p .job) noJob vacant (omega arith))
+
+-- the job as the code finds and works it is the definition's
+pub worked-by : (js : List Job) (p : Part) {number : ℕ} {j : Job}
+    → p .job < 32
+    → length js ≡ 32
+    → number ≡ p .job
+    → j ≡ worked (p .rolling) (p .time) (getD js number noJob)
+    → j ≡ workedBy js p
+worked-by js p lt size n w = rw (w, n, inside js (p .job) noJob vacant (omega arith))

@@ -7,8 +7,7 @@ use lib.IntN.{ℤ, natAbs}
 use Rattle.laws.specs.Signed.{abs-add}
 use Rattle.gus.specs.declared.Course.{Course}
 use Rattle.gus.specs.View.{View}
-use Rattle.gus.specs.Course.{passed, credited, toEnd}
-use Rattle.gus.specs.Choice.{reckonOne}
+use Rattle.gus.specs.Course.{start, passed, credited, toEnd}
 use Rattle.gus.specs.Group.{toFree}
 pub use Rattle.opening.specs.Modest.{Modest}
 
@@ -24,6 +23,9 @@ pub record Small (k : ℕ) (c : Course) : Type 0 where
 pub small-more : {j k : ℕ} {c : Course} → j ≤ k → Small j c → Small k c
 small-more h s = record { time = omega arith; gain = omega arith }
 
+pub small-start : {k : ℕ} → Small k start
+small-start = record { time = omega arith; gain = omega arith }
+
 module _ (n k : ℕ) (c : Course) (s : Small k c) (h : n ≤ 65535) where
   pub small-passed : Small (suc k) (passed n c)
   unfolding passed
@@ -37,14 +39,6 @@ module _ (n k : ℕ) (c : Course) (s : Small k c) (h : n ≤ 65535) where
   }
 
 module _ (v : View) (m : Modest v) (t : ℕ) where
-  pub small-reckon-one : (i x k : ℕ) (c : Course) → Small k c → Small (suc k) (reckonOne v t i x c)
-  unfolding reckonOne
-  small-reckon-one i x k c s = by (v .rolling i)
-    where
-      by : (b : Bool) → Small (suc k) (elim b [ true ↦ passed (v .undo x) c | false ↦ credited (v .worth i) t (v .hold x) c ])
-      by true = small-passed (v .undo x) k c s (m .undo x)
-      by false = small-credited (v .hold x) k c s (m .hold x) (v .worth i) t (m .worth i)
-
   pub small-to-free : (i x : ℕ) (d : Bool) (k : ℕ) (c : Course) → Small k c → Small (suc k) (toFree v t i x d c)
   unfolding toFree
   small-to-free i x true k c s = small-passed (v .undo x) k c s (m .undo x)

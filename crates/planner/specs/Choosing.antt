@@ -10,7 +10,7 @@ use Rattle.gus.specs.declared.Course.{Course}
 use Rattle.gus.specs.View.{View}
 use Rattle.gus.specs.Course.{passed, denser}
 use Rattle.gus.specs.Choice.{reckonOne, reckon, byDensity}
-use Rattle.planner.specs.Placed.{chainIn, chain-two, chain-next}
+use Rattle.laws.specs.Placed.{chainIn, chain-two, chain-next}
 
 -- "both courses are reckoned to the end of the chain": the job rolls back until what x requests is free, and the rest goes on from there;
 -- or the whole chain goes on as it stands

@@ -5,8 +5,8 @@ use Prim.Native.Nat.{ℕ, zero, suc, _-_, _<_, _≤_, min}
 use native.Mathlib.Nat.{not-suc-le-zero}
 use native.Mathlib.Omega.{arith}
 use borrow.Author.Tests.{le-leb, lt-leb, eq-eqb, ne-eqb}
-use lib.ListN.{getD, replicate}
-use Rattle.laws.specs.Each.{mapIx, at-mapIx}
+use lib.ListN.{getD, replicate, getD-replicate}
+use Rattle.laws.specs.Each.{mapIx, at-mapIx, Doing, ended-idle}
 use Rattle.gus.specs.Waits.{nobody}
 use Rattle.gus.specs.Victims.{circleFrom, circleOf}
 
@@ -57,6 +57,11 @@ module _ {waits : ℕ → ℕ} {home : ℕ} where
     pub circling-spent : steps ≤ 0 → nobody ≡ circleOf waits home
     circling-spent h = sym (spent waits home steps job low h) ∙ c .rest
 
+-- who waits for nobody is on no circle
+pub circle-none : (waits : ℕ → ℕ) (job : ℕ) → waits job ≡ nobody → circleOf waits job ≡ nobody
+unfolding circleOf
+circle-none waits job e = rw e (left waits job 32 nobody job (omega arith))
+
 -- the circle of each of the 32 jobs, by number
 unfoldable pub circlesOf : (ℕ → ℕ) → List ℕ
 circlesOf waits = mapIx (λ job none. circleOf waits job) (replicate 32 nobody)
@@ -64,3 +69,8 @@ circlesOf waits = mapIx (λ job none. circleOf waits job) (replicate 32 nobody)
 pub circle-at : {circles : List ℕ} (waits : ℕ → ℕ) (job : ℕ) → circles ≡ circlesOf waits → job < 32 → getD circles job 0 ≡ circleOf waits job
 unfolding circlesOf
 circle-at waits job e h = rw e (at-mapIx (λ job none. circleOf waits job) (replicate 32 nobody) job 0 h)
+
+-- the circles of the first jobs are all, where the others wait for nobody
+pub circles-ended : {waits : ℕ → ℕ} {found : List ℕ} {n : ℕ} → Doing (λ job none. circleOf waits job) 32 (replicate 32 nobody) found n → ((job : ℕ) → n ≤ job → waits job ≡ nobody) → found ≡ circlesOf waits
+unfolding circlesOf
+circles-ended {waits} d idle = ended-idle nobody d (λ job h q. circle-none waits job (idle job h) ∙ sym (getD-replicate 32 job nobody nobody q))

@@ -1,26 +1,49 @@
 -- A job against the best of those before it.
-use mathlib.Core.Path.{_≡_, refl, sym, ap, subst}
+use mathlib.Core.Path.{_≡_, sym, ap, _∙_}
 use mathlib.Core.Bool.{Bool, true, false}
-use Prim.Native.Nat.{ℕ}
+use Prim.Native.Nat.{ℕ, _+_, _<_, _≤_}
+use native.Mathlib.Omega.{arith}
+use lib.IntN.{pos, _+ℤ_, +ℤ-idl}
+use Rattle.laws.specs.Count.{upto, upto-idle}
 use Rattle.gus.specs.declared.Course.{Course}
 use Rattle.gus.specs.declared.Best.{Best}
 use Rattle.gus.specs.View.{View}
-use Rattle.gus.specs.Course.{denser}
+use Rattle.gus.specs.Course.{start, passed, credited, toEnd}
 use Rattle.gus.specs.Choice.{Way}
-use Rattle.gus.specs.Group.{groupOf}
-use Rattle.gus.specs.Round.{better, consider}
+use Rattle.gus.specs.Group.{grow, groupOf}
+use Rattle.gus.specs.Round.{better, consider, noBest, bestOf}
+use Rattle.gus.specs.Victims.{lossOf}
+use Rattle.planner.specs.Asking.{Beyond}
+use Rattle.planner.specs.Following.{chain-alone}
 
-pub better-kept : (i : ℕ) (c : Course) (b : Best) → b .some ≡ true → denser c (b .course) ≡ false → b ≡ better i c b
-unfolding better
-better-kept i c b p q =
-    subst (λ (x : Bool). b ≡ elim x [ true ↦ elim (denser c (b .course)) [ true ↦ record { some = true; last = i; course = c } | false ↦ b ] | false ↦ record { some = true; last = i; course = c } ]) (sym p)
-    (subst (λ (x : Bool). b ≡ elim x [ true ↦ record { some = true; last = i; course = c } | false ↦ b ]) (sym q) refl)
+-- a job by itself takes its time, and by running earns what is its loss
+module _ (v : View) (t i : ℕ) where
+  pub alone-back : v .rolling i ≡ true → record { time = v .rollback i; gain = pos 0 } ≡ toEnd v t i start
+  unfolding toEnd passed
+  alone-back e = let n : v .rollback i ≡ 0 + v .rollback i = omega arith in rw (e, toEnd) (λ k. record { time = n k; gain = pos 0 })
 
-module _ (way : Way) (v : View) (t i : ℕ) (b : Best) where
-  pub considered : (c : Course) (r : Best) → v .left i ≡ true → c ≡ groupOf way v t i .course → r ≡ better i c b → r ≡ consider way v t i b
-  unfolding consider
-  considered c r e p q = rw (e, consider) (rw p at q)
+  pub alone-run : v .rolling i ≡ false → lossOf v t i ≡ toEnd v t i start
+  unfolding toEnd credited lossOf
+  alone-run e =
+      let n : v .run i ≡ 0 + v .run i = omega arith in
+      rw (e, toEnd) (λ k. record { time = n k; gain = (sym (+ℤ-idl (v .worth i (t + v .run i))) ∙ ap (λ (m : ℕ). pos 0 +ℤ v .worth i (t + m)) n) k })
 
-  pub passed-over : v .left i ≡ false → b ≡ consider way v t i b
-  unfolding consider
-  passed-over e = sym (ap (λ (x : Bool). elim x as (λ _. Best) [ true ↦ better i (groupOf way v t i .course) b | false ↦ b ]) e)
+module _ (way : Way) (v : View) (t : ℕ) where
+  -- the group of a job that waits for nobody is the job itself
+  pub group-alone : {i w : ℕ} {c : Course} → i < 32 → w ≡ v .waits i → 32 ≤ w → c ≡ toEnd v t i start → c ≡ groupOf way v t i .course
+  unfolding groupOf grow
+  group-alone {i} h e q p = rw (chain-alone (v .waits) i h (rw e at q)) p
+
+  module _ (i : ℕ) (b : Best) where
+    pub considered : {c : Course} {r : Best} → v .left i ≡ true → c ≡ groupOf way v t i .course → r ≡ better i c b → r ≡ consider way v t i b
+    unfolding consider
+    considered e p q = rw (e, consider) (rw p at q)
+
+    pub passed-over : v .left i ≡ false → b ≡ consider way v t i b
+    unfolding consider
+    passed-over e = sym (ap (λ (x : Bool). elim x as (λ _. Best) [ true ↦ better i (groupOf way v t i .course) b | false ↦ b ]) e)
+
+  -- where only the first n jobs are left, the best is found among them
+  pub best-among : {n : ℕ} → Beyond n v → upto (consider way v t) n noBest ≡ bestOf way v t
+  unfolding bestOf
+  best-among {n} out = sym (upto-idle (consider way v t) n 32 noBest (out .few) (λ i b h. sym (passed-over i b (out .left i h))))

@@ -29,12 +29,11 @@ use Rattle.invariants.specs.Picked.{picked}
 use Rattle.invariants.specs.End.{Small}
 use Rattle.opening.specs.Modest.{Modest, modest}
 use Rattle.opening.specs.Small.{small-after-all}
-use Rattle.planner.specs.declared.State.{State}
-use Rattle.planner.specs.declared.Stage.{Stage}
+use Rattle.opening.specs.declared.State.{State}
 use Rattle.planner.specs.Round.{round-won, some-won, small-round}
 use Rattle.planner.specs.Applied.{noPart}
 use Rattle.planner.specs.Holding.{Holding, holding-all}
-use Rattle.planner.specs.Stage.{opening, joinedBy, roundAt}
+use Rattle.planner.specs.Stage.{Stage, opening, joinedBy, roundAt}
 
 -- jobs as they stand between two rounds, and the holders that the code keeps of them
 pub record Sane (pay : Pay) (s : State) : Type 0 where

@@ -7,16 +7,14 @@ use native.Mathlib.Omega.{arith}
 use borrow.Author.Tests.{le-leb, lt-leb}
 use lib.ListN.{length, getD, set, length-set}
 use lib.Seq.{getD-set-same, getD-set-other}
-use Rattle.laws.specs.Inside.{inside}
-use Rattle.gus.specs.Waits.{nobody, chainTo, chainOf}
-use Rattle.planner.specs.Seen.{waiting}
-use Rattle.planner.specs.Placed.{Below, placed, chainIn, chain-more}
+use Rattle.gus.specs.Waits.{chainTo, chainOf}
+use Rattle.laws.specs.Placed.{Below, placed, chainIn, chain-more}
 
 -- an array and a place that hold the chain of i
-pub record Followed (waits : List ℕ) (i : ℕ) (members : List ℕ) (from : ℕ) : Type 0 where
+pub record Followed (waits : ℕ → ℕ) (i : ℕ) (members : List ℕ) (from : ℕ) : Type 0 where
   pub low : from < 32
   pub below : Below 32 members
-  pub chain : chainIn members from ≡ chainOf (waiting waits) i
+  pub chain : chainIn members from ≡ chainOf waits i
 
 set-below : (m x : ℕ) (l : List ℕ) (k j : ℕ) → x < m → getD l j 0 < m → getD (set l k x) j 0 < m
 set-below m x [] k j p h = h
@@ -50,48 +48,46 @@ module _ (w : ℕ → ℕ) where
   stop zero k r q = refl
   stop (suc n) k r q = rw (le-leb 32 k q, chainTo)
 
--- what the code reads is whom a job waits for
-read : (waits : List ℕ) (i job : ℕ) → length waits ≡ 32 → i < 32 → job ≡ getD waits i 0 → job ≡ waiting waits i
-read waits i job s h e = e ∙ inside waits i 0 nobody (omega arith)
+-- who waits for nobody is its whole chain
+pub chain-alone : (waits : ℕ → ℕ) (i : ℕ) → i < 32 → 32 ≤ waits i → chainOf waits i ≡ i ∷ []
+unfolding chainOf
+chain-alone waits i h q = one waits 32 i [] (omega arith) h ∙ stop waits 31 (waits i) (i ∷ []) q
 
 -- the chain so far is at places from .. 32, and job is whom its first member waits for
-pub record Following (waits : List ℕ) (i : ℕ) (members : List ℕ) (from job : ℕ) : Type 0 where
-  pub size : length waits ≡ 32
+pub record Following (waits : ℕ → ℕ) (i : ℕ) (members : List ℕ) (from job : ℕ) : Type 0 where
   pub low : from ≤ 31
   pub long : length members ≡ 32
   pub below : Below 32 members
-  pub chain : chainTo (waiting waits) from job (chainIn members from) ≡ chainOf (waiting waits) i
+  pub chain : chainTo waits from job (chainIn members from) ≡ chainOf waits i
 
-module _ (waits : List ℕ) (i : ℕ) where
-  pub following-begin : (l : List ℕ) (job : ℕ) → length waits ≡ 32 → length l ≡ 32 → Below 32 l → i < 32 → job ≡ getD waits i 0 → Following waits i (set l 31 i) 31 job
+module _ {waits : ℕ → ℕ} {i : ℕ} where
+  pub following-begin : {l : List ℕ} {job : ℕ} → length l ≡ 32 → Below 32 l → i < 32 → job ≡ waits i → Following waits i (set l 31 i) 31 job
   unfolding chainOf chainIn placed
-  following-begin l job s n b h e = record {
-    size = s;
+  following-begin {l} n b h e = record {
     low = omega arith;
     long = length-set l 31 i ∙ n;
     below = record { below = λ j. set-below 32 i l 31 j h (b .below j) };
-    chain = rw (chain-set l 31 i n (omega arith), read waits i job s h e) (sym (one (waiting waits) 32 i [] (omega arith) h));
+    chain = rw (chain-set l 31 i n (omega arith), e) (sym (one waits 32 i [] (omega arith) h));
   }
 
-  module _ (l : List ℕ) (from job : ℕ) (f : Following waits i l from job) where
-    pub following-next : (next : ℕ) → 0 < from → job < 32 → next ≡ getD waits job 0 → Following waits i (set l (from - 1) job) (from - 1) next
-    following-next next h q e = record {
-      size = f .size;
+  module _ {l : List ℕ} {from job : ℕ} (f : Following waits i l from job) where
+    pub following-next : {next : ℕ} → 0 < from → job < 32 → next ≡ waits job → Following waits i (set l (from - 1) job) (from - 1) next
+    following-next h q e = record {
       low = omega (arith, f .low);
       long = length-set l (from - 1) job ∙ f .long;
       below = record { below = λ j. set-below 32 job l (from - 1) j q (f .below .below j) };
       chain =
           let s : from - 1 + 1 ≡ from = omega arith in
           let c : chainIn (set l (from - 1) job) (from - 1) ≡ job ∷ chainIn l from = rw s at (chain-set l (from - 1) job (f .long) (omega (arith, f .low))) in
-          rw (c, read waits job next (f .size) q e) (sym (one (waiting waits) from job (chainIn l from) h q) ∙ f .chain);
+          rw (c, e) (sym (one waits from job (chainIn l from) h q) ∙ f .chain);
     }
 
     pub following-stopped : 32 ≤ job → Followed waits i l from
-    following-stopped q = record { low = omega (arith, f .low); below = f .below; chain = sym (stop (waiting waits) from job (chainIn l from) q) ∙ f .chain }
+    following-stopped q = record { low = omega (arith, f .low); below = f .below; chain = sym (stop waits from job (chainIn l from) q) ∙ f .chain }
 
     pub following-ended : from ≤ 0 → Followed waits i l from
     unfolding chainTo
     following-ended q =
         let z : from ≡ 0 = omega arith in
-        let e : chainTo (waiting waits) from job (chainIn l from) ≡ chainIn l from = ap (λ (n : ℕ). chainTo (waiting waits) n job (chainIn l from)) z in
+        let e : chainTo waits from job (chainIn l from) ≡ chainIn l from = ap (λ (n : ℕ). chainTo waits n job (chainIn l from)) z in
         record { low = omega arith; below = f .below; chain = sym e ∙ f .chain }

@@ -14,8 +14,8 @@ use Rattle.gus.specs.Course.{start, span, whole, toEnd}
 use Rattle.gus.specs.Choice.{byDensity}
 use Rattle.gus.specs.Group.{Group, toFree, partOf, grow}
 use Rattle.planner.specs.declared.GroupParts.{GroupParts}
-use Rattle.planner.specs.Bounds.{Modest, Small, small-to-free}
-use Rattle.planner.specs.Placed.{chainIn, chain-two, chain-next, chain-last}
+use Rattle.planner.specs.Bounds.{Modest, Small, small-start, small-to-free}
+use Rattle.laws.specs.Placed.{chainIn, chain-two, chain-next, chain-last}
 use Rattle.planner.specs.LaidOut.{emptyPart, laidOut}
 
 -- a part before a group
@@ -64,7 +64,7 @@ module _ (v : View) (t : ℕ) (members : List ℕ) where
       pub same : grown k c .course ≡ grown from start .course
 
     pub scoring-begin : from < 32 → Scoring start from
-    scoring-begin h = record { within = omega arith; small = record { time = omega arith; gain = omega arith }; same = refl }
+    scoring-begin h = record { within = omega arith; small = small-start; same = refl }
 
     pub scoring-next : (k i x : ℕ) (c : Course) (b : Bool) (d : Course) → Modest v → Scoring c k → Turn k i x c b d → Scoring d (k + 1)
     scoring-next k i x c b d m s r = record {
@@ -96,15 +96,15 @@ module _ (v : View) (t : ℕ) (members : List ℕ) where
       pushing = rw (f, span-in v b x) (push-next (rw (grow-next k i x c b d r) at (g .pushing)) (omega (arith, g .places, r .more)));
     }
 
-    pub growing-ended : (parts : List Part) (n k i : ℕ) (c : Course) (s : ℕ) (d : Course) → Growing parts c n k → 31 ≤ k →
-        i ≡ getD members 31 0 → s ≡ cond (v .rolling i) (v .rollback i) (v .run i) → d ≡ toEnd v t i c →
-        _≡_ {A = GroupParts} (record { parts = set parts n (partOf (getD members 31 0) (v .rolling i) s); count = n + 1; course = d }) (laidOut (grown from start))
+    pub growing-ended : (parts : List Part) (n k i : ℕ) (c : Course) (b : Bool) (s : ℕ) (d : Course) → Growing parts c n k → 31 ≤ k →
+        i ≡ getD members 31 0 → b ≡ v .rolling i → s ≡ cond b (v .rollback i) (v .run i) → d ≡ toEnd v t i c →
+        _≡_ {A = GroupParts} (record { parts = set parts n (partOf (getD members 31 0) b s); count = n + 1; course = d }) (laidOut (grown from start))
     unfolding laidOut lastOnly
-    growing-ended parts n k i c s d g h p f w =
+    growing-ended parts n k i c b s d g h p q f w =
         let e31 : k ≡ 31 = omega (arith, g .scoring .within) in
         let last : grown k c ≡ lastOnly i c = rw p (grow-last k c e31) in
         let pushed : Pushing 32 emptyPart (grown from start .parts) [] (set parts n (partOf i (v .rolling i) (whole v (v .rolling i) i))) (n + 1) = push-next (rw last at (g .pushing)) (omega (arith, g .places)) in
-        rw (f, whole-in v (v .rolling i) i, ← p) (same (push-ended pushed) (push-length pushed) (scoring-ended k i c d (g .scoring) h p w))
+        rw (f, q, whole-in v (v .rolling i) i, ← p) (same (push-ended pushed) (push-length pushed) (scoring-ended k i c d (g .scoring) h p w))
       where
         same : {a b : List Part} {m n : ℕ} {x y : Course} → a ≡ b → m ≡ n → x ≡ y → _≡_ {A = GroupParts} (record { parts = a; count = m; course = x }) (record { parts = b; count = n; course = y })
         same p q r = λ j. record { parts = p j; count = q j; course = r j }

@@ -1,5 +1,5 @@
--- What the caller has of the array of victims: they are those of the definition, by any view of the same jobs, and each is a job.
-use mathlib.Core.Path.{_≡_, refl, _∙_}
+-- What the caller has of the array of victims: they are those of the definition, and each is a job.
+use mathlib.Core.Path.{_≡_, _∙_}
 use mathlib.Core.Bool.{Bool, true, false}
 use mathlib.Core.List.{List, [], _∷_, _++_}
 use Prim.Native.Nat.{ℕ, zero, suc, _-_, _<_}
@@ -9,29 +9,11 @@ use lib.ListN.{length, getD, replicate, length-append, length-replicate}
 use lib.Seq.{take-append-seam}
 use Rattle.laws.specs.Fill.{padded}
 use Rattle.gus.specs.View.{View}
-use Rattle.gus.specs.Victims.{circleOf, lossOf, victimOf, victimsTo, victimsOf}
-use Rattle.invariants.specs.SameVictims.{AlikeForVictims, same-victims, same-knot}
-use Rattle.planner.specs.Bounds.{Modest}
+use Rattle.gus.specs.Victims.{circleOf, victimOf, victimsTo, victimsOf}
 use Rattle.planner.specs.Offering.{victim-below}
-use Rattle.planner.specs.Placed.{zeros-below}
+use Rattle.laws.specs.Placed.{zeros-below}
 use Rattle.planner.specs.Listing.{listed, few}
 use Rattle.planner.specs.Settling.{Handed, victimsIn}
-
--- the view without what no victim depends on; of any view of lent arrays it is `seenWaits`
-abbrev pub forVictims : View → View
-forVictims v = record {
-  left = λ i. false;
-  waits = v .waits;
-  hold = λ i. 0;
-  undo = λ i. 0;
-  run = v .run;
-  rollback = v .rollback;
-  rolling = λ i. false;
-  worth = v .worth;
-}
-
-pub modest-for-victims : {v : View} → Modest v → Modest (forVictims v)
-modest-for-victims m = record { hold = λ i. omega arith; undo = λ i. omega arith; run = m .run; rollback = m .rollback; worth = m .worth }
 
 append-below : (l m : List ℕ) → ((k : ℕ) → getD l k 0 < 32) → ((k : ℕ) → getD m k 0 < 32) → (k : ℕ) → getD (l ++ m) k 0 < 32
 append-below [] m p q k = q k
@@ -39,14 +21,6 @@ append-below (x ∷ l) m p q zero = p 0
 append-below (x ∷ l) m p q (suc k) = append-below l m (λ j. p (suc j)) q k
 
 module _ (v : View) (t : ℕ) where
-  alike : AlikeForVictims (forVictims v) v t
-  unfolding lossOf
-  alike = record { waits = refl; rollback = refl; loss = λ i c. refl }
-
-  pub same-listed : listed (forVictims v) t ≡ listed v t
-  unfolding listed
-  same-listed = rw (same-victims alike, same-knot alike)
-
   pub listed-victims : victimsIn (listed v t) ≡ victimsOf v t
   unfolding listed padded
   listed-victims = take-append-seam (victimsOf v t) _

@@ -15,16 +15,12 @@ use Rattle.invariants.specs.Sound.{Sound}
 use Rattle.invariants.specs.Proper.{Proper, sound-after}
 use Rattle.invariants.specs.Holders.{holder-step}
 use Rattle.invariants.specs.Replay.{Replay, over, then}
-use Rattle.planner.specs.declared.State.{State}
+use Rattle.opening.specs.declared.State.{State}
 use Rattle.planner.specs.Applied.{holderAfter, holdersAfter, holdersAll, afterPart, afterParts, holder-after}
-use Rattle.planner.specs.LaidView.{Agreeing}
 
 pub record Holding (s : State) : Type 0 where
   pub size : length (s .holders) ≡ 32
   pub agree : (r : ℕ) → r < 32 → getD (s .holders) r nobody ≡ holderOf (s .jobs) r
-
-pub agreeing : {s : State} → Sound (s .jobs) → Holding s → Agreeing s
-agreeing y h = record { jobs = y .size; held = λ i. y .fit i .size; holders = h .agree }
 
 holding-after : (s : State) {p : Part} → Sound (s .jobs) → Proper (s .jobs) p → Holding s → Holding (afterPart s p)
 unfolding holdersAfter

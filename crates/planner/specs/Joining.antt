@@ -1,5 +1,5 @@
 -- What a round finds by the lent arrays is what the definition finds by the jobs, and its group can be joined to the plan.
-use mathlib.Core.Path.{_≡_, ap, _∙_}
+use mathlib.Core.Path.{_≡_, sym, ap, _∙_}
 use mathlib.Core.List.{List}
 use Prim.Native.Nat.{ℕ, _+_, _-_, _<_, _≤_}
 use native.Mathlib.Omega.{arith}
@@ -13,21 +13,15 @@ use Rattle.gus.specs.Choice.{Way}
 use Rattle.gus.specs.Group.{Group}
 use Rattle.invariants.specs.Fair.{Fair}
 use Rattle.invariants.specs.Burden.{runs-burden}
-use Rattle.planner.specs.declared.State.{State}
-use Rattle.planner.specs.declared.Links.{Links}
+use Rattle.opening.specs.declared.State.{State}
 use Rattle.planner.specs.declared.GroupParts.{GroupParts}
-use Rattle.planner.specs.declared.Stage.{Stage}
-use Rattle.planner.specs.Seen.{paid, seen, seenTimes}
-use Rattle.planner.specs.Bounds.{Modest, Planned}
-use Rattle.planner.specs.Laid.{laid}
-use Rattle.planner.specs.LaidView.{laid-view, laid-modest}
+use Rattle.planner.specs.Bounds.{Planned}
 use Rattle.planner.specs.LaidOut.{emptyPart, laidOut}
-use Rattle.planner.specs.Round.{roundOf, round-short, small-round}
+use Rattle.planner.specs.Round.{round-short, small-round}
 use Rattle.planner.specs.Applied.{afterParts, noPart, Numbered}
 use Rattle.planner.specs.Appended.{appended}
-use Rattle.planner.specs.Holding.{agreeing}
-use Rattle.planner.specs.Stage.{joinedBy, roundAt}
-use Rattle.planner.specs.Fitting.{Sane, Fitting, sane-modest, numbered, round-runs}
+use Rattle.planner.specs.Stage.{Stage, joinedBy, roundAt}
+use Rattle.planner.specs.Fitting.{Fitting, sane-modest, numbered, round-runs}
 
 -- a group that can be joined to a stage: the parts find room, and no number grows too large
 pub record Joinable (s : Stage) (g : GroupParts) : Type 0 where
@@ -76,8 +70,12 @@ module _ (way : Way) (pay : Pay) (s : Stage) {g : GroupParts} (e : g ≡ laidOut
         time = c .time;
       })
 
-  group-parts : take (g .count) (g .parts) ≡ roundAt way pay s .parts
+  pub group-parts : take (g .count) (g .parts) ≡ roundAt way pay s .parts
   group-parts = ap (λ (x : GroupParts). take (x .count) (x .parts)) e ∙ laid-parts (roundAt way pay s)
+
+  pub group-length : length (take (g .count) (g .parts)) ≡ g .count
+  unfolding laidOut
+  group-length = ap length group-parts ∙ sym (ap (λ (x : GroupParts). x .count) e)
 
   -- what the code makes of the group is the stage that the group makes
   pub round-joined : {state : State} {parts : List Part} {total : ℤ}
@@ -94,14 +92,3 @@ module _ (way : Way) (pay : Pay) (s : Stage) {g : GroupParts} (e : g ≡ laidOut
     total = (t ∙ ap (λ (x : GroupParts). s .total +ℤ x .course .gain) e) j;
     moment = s .moment + e j .course .time;
   }
-
--- over the lent curves, with the arrays that are laid out for a round
-module _ (bytes places : List ℕ) {s : State} {l : Links} (y : Sane (paid bytes places) s) (e : l ≡ laid s) where
-  pub round-modest : Modest (seenTimes bytes places (l .run) (l .rollback) (l .hold) (l .undo) (l .rolling))
-  round-modest = rw e (laid-modest s (agreeing (y .ready .sound) (y .holding)) bytes places (sane-modest y))
-
-  round-view : seen bytes places (l .run) (l .rollback) (l .hold) (l .undo) (l .rolling) (l .left) (l .waits) ≡ viewOf (paid bytes places) (s .jobs)
-  round-view = rw e (laid-view s (agreeing (y .ready .sound) (y .holding)) bytes places)
-
-  pub round-found : (way : Way) (t : ℕ) {g : GroupParts} → g ≡ laidOut (roundOf way (seen bytes places (l .run) (l .rollback) (l .hold) (l .undo) (l .rolling) (l .left) (l .waits)) t) → g ≡ laidOut (roundOf way (viewOf (paid bytes places) (s .jobs)) t)
-  round-found way t h = h ∙ ap (λ (v : View). laidOut (roundOf way v t)) round-view

@@ -16,7 +16,7 @@ use Rattle.gus.specs.Course.{start, denser}
 use Rattle.gus.specs.Choice.{Way}
 use Rattle.gus.specs.Group.{toFree, grow, groupOf}
 use Rattle.gus.specs.Round.{better, consider, noBest, bestOf}
-use Rattle.planner.specs.Bounds.{Modest, Small, small-more, small-to-free, small-to-end}
+use Rattle.planner.specs.Bounds.{Modest, Small, small-more, small-start, small-to-free, small-to-end}
 
 -- a walk of n steps along the waits finds at most n members, and keeps those that it has
 chain-grows : (waits : ℕ → ℕ) (n j : ℕ) (l : List ℕ) → (length l ≤ length (chainTo waits n j l)) × (length (chainTo waits n j l) ≤ n + length l)
@@ -97,9 +97,6 @@ module _ (way : Way) (v : View) (t : ℕ) where
     small-grow (i ∷ x ∷ l) k c s =
         let b = way v t i x l c in
         small-more (omega arith) (small-grow (x ∷ l) (suc k) (toFree v t i x b c) (small-to-free v m t i x b k c s))
-
-    small-start : {k : ℕ} → Small k start
-    small-start = record { time = omega arith; gain = omega arith }
 
     pub small-group : (i : ℕ) → Small 32 (groupOf way v t i .course)
     unfolding groupOf

@@ -15,6 +15,8 @@ use Rattle.gus.specs.Waits.{nobody}
 use Rattle.gus.specs.View.{View}
 use Rattle.gus.specs.Victims.{circleOf, victimOf, victimsTo, victimsOf, knotTo, knotOf}
 use Rattle.planner.specs.declared.Victims.{Victims}
+use Rattle.planner.specs.Circling.{circle-none}
+use Rattle.planner.specs.Asking.{Beyond}
 
 -- the victims and the knot as the code hands them over; and those of the circles whose lowest member is below n
 unfoldable pub listed : View → ℕ → Victims
@@ -66,10 +68,6 @@ module _ (v : View) (t : ℕ) where
   unfolding listedTo victimsTo knotTo padded
   listed-begin = refl
 
-  pub listed-ended : {n : ℕ} → n ≡ 32 → listedTo v t n ≡ listed v t
-  unfolding listedTo listed victimsOf knotOf
-  listed-ended e = rw e
-
   module _ (n : ℕ) (h : n < 32) where
     victims-more : circleOf (v .waits) n ≡ n → victimsTo v t (suc n) ≡ victimsTo v t n ++ victimOf v t n .last ∷ []
     unfolding victimsTo
@@ -118,3 +116,18 @@ module _ (v : View) (t : ℕ) where
     pub listed-same : (circleOf (v .waits) n ≡ n → ⊥) → listedTo v t n ≡ listedTo v t (n + 1)
     unfolding listedTo
     listed-same e = rw (add-one, victims-same e, knot-same e)
+
+  -- where only the first n jobs wait, their circles are all
+  pub listed-among : {n : ℕ} → Beyond n v → listedTo v t n ≡ listed v t
+  unfolding listed victimsOf knotOf listedTo
+  listed-among {n} out = sym (by (32 - n) 32 (omega (arith, out .few)) (omega arith))
+    where
+      apart : (i c : ℕ) → i < 32 → c ≡ nobody → c ≡ i → ⊥
+      apart i c h e q = omega arith
+
+      by : (k m : ℕ) → m ≡ n + k → m ≤ 32 → listedTo v t m ≡ listedTo v t n
+      by zero m e h = let same : m ≡ n = omega arith in ap (listedTo v t) same
+      by (suc k) zero e h = absurd (omega arith)
+      by (suc k) (suc m) e h =
+          let off = circle-none (v .waits) m (out .waits m (omega arith)) in
+          sym (rw add-one at (listed-same m (omega arith) (apart m _ (omega arith) off))) ∙ by k m (omega arith) (omega arith)

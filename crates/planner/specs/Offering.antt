@@ -1,40 +1,22 @@
 -- The choice of a circle's victim, job by job.
 use mathlib.Core.Path.{_≡_, sym, ap, _∙_}
 use mathlib.Core.Bool.{Bool, true, false}
-use mathlib.Core.List.{List, []}
 use Prim.Native.Nat.{ℕ, zero, suc, _<_, _≤_}
 use native.Mathlib.Omega.{arith}
 use borrow.Author.Tests.{eq-eqb, ne-eqb}
 use lib.Dec.{eqb}
-use Rattle.laws.specs.Count.{upto}
+use Rattle.laws.specs.Count.{upto, upto-idle}
 use Rattle.job.specs.Times.{never}
 use Rattle.gus.specs.declared.Course.{Course}
 use Rattle.gus.specs.declared.Best.{Best}
 use Rattle.gus.specs.View.{View}
+use Rattle.gus.specs.Waits.{nobody}
 use Rattle.gus.specs.Course.{denser}
 use Rattle.gus.specs.Round.{noBest}
 use Rattle.gus.specs.Victims.{circleOf, lossOf, lesser, offer, victimOf}
-use Rattle.planner.specs.Seen.{seen}
-
--- the view for what asks neither who is left nor for holds nor for modes
-abbrev pub seenWaits : List ℕ → List ℕ → List ℕ → List ℕ → List ℕ → View
-seenWaits bytes places run rollback waits = seen bytes places run rollback [] [] [] [] waits
-
-abbrev pub taken : ℕ → Course → Best
-taken job c = record { some = true; last = job; course = c }
-
-module _ (job : ℕ) (c : Course) (b : Best) where
-  pub lesser-first : b .some ≡ false → taken job c ≡ lesser job c b
-  unfolding lesser
-  lesser-first p = sym (λ k. elim (p k) [ true ↦ elim (denser (b .course) c) [ true ↦ taken job c | false ↦ b ] | false ↦ taken job c ])
-
-  pub lesser-taken : b .some ≡ true → denser (b .course) c ≡ true → taken job c ≡ lesser job c b
-  unfolding lesser
-  lesser-taken p q = sym (λ k. elim (p k) [ true ↦ elim (q k) [ true ↦ taken job c | false ↦ b ] | false ↦ taken job c ])
-
-  pub lesser-kept : b .some ≡ true → denser (b .course) c ≡ false → b ≡ lesser job c b
-  unfolding lesser
-  lesser-kept p q = sym (λ k. elim (p k) [ true ↦ elim (q k) [ true ↦ taken job c | false ↦ b ] | false ↦ taken job c ])
+use Rattle.planner.specs.Circling.{circle-none}
+use Rattle.planner.specs.Picking.{taken}
+use Rattle.planner.specs.Asking.{Beyond}
 
 module _ (v : View) (t low job : ℕ) (b : Best) (circle : ℕ) (e : circle ≡ circleOf (v .waits) job) where
   on : circle ≡ low → eqb (circleOf (v .waits) job) low ≡ true
@@ -84,3 +66,14 @@ module _ (v : View) (t low : ℕ) where
   pub victim-below : victimOf v t low .last < 32
   unfolding victimOf
   victim-below = below-to 32 (omega arith)
+
+  -- and where only the first n jobs wait, it is found among them
+  pub victim-among : {n : ℕ} → low < 32 → Beyond n v → upto (offer v t low) n noBest ≡ victimOf v t low
+  unfolding victimOf
+  victim-among {n} h out = sym (upto-idle (offer v t low) n 32 noBest (out .few) idle)
+    where
+      apart : nobody ≡ low → low < 32 → ⊥
+      apart e l = omega arith
+
+      idle : (job : ℕ) (b : Best) → n ≤ job → offer v t low job b ≡ b
+      idle job b l = sym (offer-other v t low job b nobody (sym (circle-none (v .waits) job (out .waits job l))) (λ e. apart e h))

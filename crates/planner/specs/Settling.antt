@@ -29,8 +29,13 @@ pub record Settling (v : Victims) (js₀ js : List Job) (k : ℕ) : Type 0 where
   pub size : length js ≡ 32
   pub rest : settled js (drop k (victimsIn v)) ≡ settled js₀ (victimsIn v)
 
-long : {v : Victims} → Handed v → length (victimsIn v) ≡ v .count
-long {v} h = length-take-le (v .count) (v .list) (omega (arith, h .size, h .few))
+module _ {v : Victims} (h : Handed v) where
+  pub victims-long : length (victimsIn v) ≡ v .count
+  victims-long = length-take-le (v .count) (v .list) (omega (arith, h .size, h .few))
+
+  -- the k-th is the first of those left from it on
+  pub victims-next : (k : ℕ) → k < v .count → drop k (victimsIn v) ≡ getD (v .list) k 0 ∷ drop (suc k) (victimsIn v)
+  victims-next k l = drop-cons (victimsIn v) k 0 (omega (arith, victims-long)) ∙ ap (λ (x : ℕ). x ∷ drop (suc k) (victimsIn v)) (getD-take (v .count) (v .list) k 0 l)
 
 module _ {v : Victims} {js₀ : List Job} (h : Handed v) where
   pub settling-begin : length js₀ ≡ 32 → Settling v js₀ js₀ 0
@@ -41,17 +46,15 @@ module _ {v : Victims} {js₀ : List Job} (h : Handed v) where
     unfolding settled
     settling-next {j} l e =
         let i : ℕ = getD (v .list) k 0 in
-        let d : drop k (victimsIn v) ≡ i ∷ drop (suc k) (victimsIn v) =
-        drop-cons (victimsIn v) k 0 (omega (arith, long h)) ∙ ap (λ (x : ℕ). x ∷ drop (suc k) (victimsIn v)) (getD-take (v .count) (v .list) k 0 l) in
         let q : j ≡ sentBack (getD js i vacant) = e ∙ ap sentBack (inside js i noJob vacant (omega (arith, h .jobs k, s .size))) in
         record {
           within = omega arith;
           size = length-set js i j ∙ s .size;
-          rest = rw (add-one, q) (rw d at (s .rest));
+          rest = rw (add-one, q) (rw (victims-next h k l) at (s .rest));
         }
 
     pub settling-ended : v .count ≤ k → js ≡ settled js₀ (victimsIn v)
     unfolding settled
     settling-ended l =
-        let e : k ≡ length (victimsIn v) = omega (arith, long h, s .within) in
+        let e : k ≡ length (victimsIn v) = omega (arith, victims-long h, s .within) in
         rw (e, drop-length (victimsIn v)) at (s .rest)

@@ -1,18 +1,27 @@
 -- One round of the code's loop, as a step from stage to stage (VI.1, for any way of choosing a mode).
-use mathlib.Core.List.{[]}
+use mathlib.Core.List.{List, []}
 use Prim.Native.Nat.{ℕ, _+_}
-use lib.IntN.{pos, _+ℤ_}
+use lib.IntN.{ℤ, pos, _+ℤ_}
 use lib.ListN.{length}
 use Rattle.laws.specs.Fill.{padded}
+use Rattle.gus.specs.declared.Part.{Part}
 use Rattle.gus.specs.View.{Pay, viewOf}
 use Rattle.gus.specs.Choice.{Way}
 use Rattle.gus.specs.Group.{Group}
-use Rattle.planner.specs.declared.State.{State}
-use Rattle.planner.specs.declared.Stage.{Stage}
+use Rattle.opening.specs.declared.State.{State}
 use Rattle.planner.specs.LaidOut.{emptyPart}
 use Rattle.planner.specs.Round.{roundOf}
 use Rattle.planner.specs.Applied.{afterParts}
 use Rattle.planner.specs.Appended.{appended}
+
+-- the jobs after some rounds, the plan so far (the first count of its parts), and the planned moment: the loop's locals together
+pub record Stage : Type 0 where
+  pub state : State
+  pub parts : List Part
+  pub count : ℕ
+  pub rounds : ℕ
+  pub total : ℤ
+  pub moment : ℕ
 
 unfoldable pub opening : State → ℕ → Stage
 opening s now = record { state = s; parts = padded 96 emptyPart []; count = 0; rounds = 0; total = pos 0; moment = now }

@@ -1,7 +1,6 @@
 -- THE ROUNDS AS A LOOP: the plan so far, joined with the rounds left from here, is the whole plan.
-use mathlib.Core.Path.{_≡_, refl, sym, subst, _∙_}
-use Prim.Native.Nat.{ℕ, suc, _+_, _-_, _<_, _≤_}
-use native.Mathlib.Nat.{sub-zero}
+use mathlib.Core.Path.{_≡_, refl, sym, _∙_}
+use Prim.Native.Nat.{ℕ, suc, _+_, _<_, _≤_}
 use native.Mathlib.Omega.{arith}
 use lib.IntN.{_+ℤ_, +ℤ-idl, +ℤ-idr, +ℤ-assoc}
 use lib.ListN.{length}
@@ -11,16 +10,16 @@ use Rattle.gus.specs.Choice.{Way}
 use Rattle.gus.specs.Round.{Plan, stop, joined, rounds}
 use Rattle.invariants.specs.Fair.{Fair}
 use Rattle.invariants.specs.Burden.{runs-burden}
-use Rattle.planner.specs.declared.State.{State}
-use Rattle.planner.specs.declared.Stage.{Stage}
+use Rattle.opening.specs.declared.State.{State}
+use Rattle.planner.specs.declared.PlanParts.{PlanParts}
 use Rattle.planner.specs.LaidOut.{emptyPart}
 use Rattle.planner.specs.Appending.{appended-pushing}
 use Rattle.planner.specs.Round.{round-won, some-won, none-over}
-use Rattle.planner.specs.Stage.{opening, joinedBy, roundAt}
+use Rattle.planner.specs.Stage.{Stage, opening, joinedBy, roundAt}
 use Rattle.planner.specs.Fitting.{Sane, Fitting, fitting-begin, fitting-next, round-runs}
 
--- a plan laid out in a stage
-pub record Rounded (plan : Plan) (s : Stage) : Type 0 where
+-- a plan laid out
+pub record Rounded (plan : Plan) (s : PlanParts) : Type 0 where
   pub parts : s .parts ≡ padded 96 emptyPart (plan .parts)
   pub count : s .count ≡ length (plan .parts)
   pub rounds : s .rounds ≡ plan .rounds
@@ -34,7 +33,10 @@ record Making (whole : Plan) (s : Stage) (rest : Plan) : Type 0 where
   total : s .total +ℤ rest .total ≡ whole .total
   end : rest .end ≡ whole .end
 
-made : {whole : Plan} {s : Stage} → Making whole s (stop (s .moment)) → Rounded whole s
+abbrev pub planOf : Stage → PlanParts
+planOf s = record { parts = s .parts; count = s .count; rounds = s .rounds; total = s .total; moment = s .moment }
+
+made : {whole : Plan} {s : Stage} → Making whole s (stop (s .moment)) → Rounded whole (planOf s)
 made {s = s} m = record {
   parts = push-ended (m .parts);
   count = push-length (m .parts);
@@ -59,7 +61,7 @@ staged-begin y h = record {
 }
 
 module _ {way : Way} {pay : Pay} {whole : Plan} where
-  pub staged-ended : {s : Stage} → Staged 0 way pay whole s → Rounded whole s
+  pub staged-ended : {s : Stage} → Staged 0 way pay whole s → Rounded whole (planOf s)
   unfolding rounds
   staged-ended y = made (y .making)
 
@@ -76,7 +78,7 @@ module _ {way : Way} {pay : Pay} {whole : Plan} where
     rest-join h = let w = some-won way v (s .moment) h in rw (round-won way v (s .moment) w, w, rounds)
 
     -- the end
-    pub staged-stopped : length (roundAt way pay s .parts) ≤ 0 → Rounded whole s
+    pub staged-stopped : length (roundAt way pay s .parts) ≤ 0 → Rounded whole (planOf s)
     staged-stopped h = made (rw (rest-stop h) at (y .making))
 
     -- one round on
@@ -92,41 +94,4 @@ module _ {way : Way} {pay : Pay} {whole : Plan} where
           rounds = omega (arith, m .rounds);
           total = +ℤ-assoc (s .total) (roundAt way pay s .course .gain) (rest .total) ∙ m .total;
           end = m .end;
-        }
-
--- The same by the number of rounds made: i of n. When all are made, nobody asks for the state any more.
-pub record Rounding (n : ℕ) (way : Way) (pay : Pay) (whole : Plan) (s : Stage) (i : ℕ) : Type 0 where
-  pub more : i < n → Staged (n - i) way pay whole s
-  pub done : n ≤ i → Rounded whole s
-
-pub rounding-begin : {n : ℕ} {way : Way} {pay : Pay} {s : State} {now : ℕ} → Sane pay s → now ≤ 2147483647 → Rounding n way pay (rounds n way pay (s .jobs) now) (opening s now) 0
-rounding-begin {n} {way} {pay} {s} {now} y h =
-    let all : Staged n way pay (rounds n way pay (s .jobs) now) (opening s now) = staged-begin y h in
-    record {
-      more = λ l. rw (sub-zero n) all;
-      done = λ l. let e : n ≡ 0 = omega arith in staged-ended (subst (λ (k : ℕ). Staged k way pay (rounds n way pay (s .jobs) now) (opening s now)) e all);
-    }
-
-module _ {n : ℕ} {way : Way} {pay : Pay} {whole : Plan} {s : Stage} {i : ℕ} (y : Rounding n way pay whole s i) (h : i < n) where
-  one-more : Staged (suc (n - (i + 1))) way pay whole s
-  one-more = let e : suc (n - (i + 1)) ≡ n - i = omega arith in rw e (y .more h)
-
-  pub rounding-fits : Fitting pay s
-  rounding-fits = y .more h .fits
-
-  pub rounding-stopped : length (roundAt way pay s .parts) ≤ 0 → Rounded whole s
-  rounding-stopped w = staged-stopped one-more w
-
-  module _ (fair : Fair way) (w : 0 < length (roundAt way pay s .parts)) {r : Stage} (e : r ≡ joinedBy (roundAt way pay s) s) where
-    pub rounding-next : i + 1 < n → Rounding n way pay whole r (i + 1)
-    rounding-next l = record { more = λ _. staged-next one-more fair w e; done = λ m. absurd (omega arith) }
-
-    -- the last of them: whatever the state is left as
-    pub rounding-last : n ≤ i + 1 → (state : State) → Rounding n way pay whole (record { state = state; parts = r .parts; count = r .count; rounds = r .rounds; total = r .total; moment = r .moment }) (i + 1)
-    rounding-last l state =
-        let q : n - (i + 1) ≡ 0 = omega arith in
-        let d : Rounded whole r = staged-ended (rw q at (staged-next one-more fair w e)) in
-        record {
-          more = λ m. absurd (omega arith);
-          done = λ m. record { parts = d .parts; count = d .count; rounds = d .rounds; total = d .total; end = d .end };
         }

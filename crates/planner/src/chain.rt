@@ -2,26 +2,26 @@
 ghost use mathlib.Core.Path.{_≡_};
 ghost use Prim.Native.Nat.{_<_};
 ghost use lib.ListN.{length};
-ghost use Rattle.planner.specs.Placed.{Below};
+ghost use Rattle.planner.specs.Sheet.{waitsIn};
+ghost use Rattle.laws.specs.Placed.{Below};
 ghost use Rattle.planner.specs.Following.{Followed};
-use crate::wide;
+use crate::sheet::waits_of;
 
 // Members r .. 32, farthest holder first. The array is the caller's: a chain that came back by value would be copied for each job.
-pub(crate) fn follow(waits: &[u8; 32], last: usize, members: &mut [u8; 32]) -> usize
+pub(crate) fn follow(sheet: &[u32; 256], last: usize, members: &mut [u8; 32]) -> usize
     requires { ⌜ (last < 32) × ((length (now members) ≡ 32) × Below 32 (now members)) ⌝ }
-    ensures { λ r. ⌜ Followed (now (waits .entry)) last (now (members .exit)) r ⌝ }
+    ensures { λ r. ⌜ Followed (waitsIn (now (sheet .entry))) last (now (members .exit)) r ⌝ }
 {
-    let all: &[u8] = waits;
     members[31] = last as u8;
     let mut from: usize = 31;
-    let mut job = wide(all[last]);
+    let mut job = waits_of(sheet, last);
     while 0 < from {
         if 32 <= job {
             return from;
         }
         from -= 1;
         members[from] = job as u8;
-        job = wide(all[job]);
+        job = waits_of(sheet, job);
     }
     from
 }

@@ -1,9 +1,11 @@
 // Wait circles (V.1): "A circle of waits is a deadlock".
 ghost use mathlib.Core.Path.{_≡_};
-ghost use Prim.Native.Nat.{_<_, min};
+ghost use Prim.Native.Nat.{ℕ, _<_, _≤_, min};
+ghost use Rattle.gus.specs.Waits.{nobody};
 ghost use Rattle.gus.specs.Victims.{circleOf};
-ghost use Rattle.planner.specs.Seen.{waiting};
+ghost use Rattle.planner.specs.Sheet.{waitsIn};
 ghost use Rattle.planner.specs.Circling.{circlesOf};
+use crate::sheet::waits_of;
 
 pub(crate) const NOBODY: u8 = 255;
 
@@ -14,13 +16,12 @@ fn lower(a: usize, b: usize) -> usize
 }
 
 // The lowest member of the circle that a job is on, and nobody where it is on none. Most jobs wait for nobody, which ends the walk at once.
-pub(crate) fn circle_of(waits: &[u8; 32], home: usize) -> u8
+fn circle_of(sheet: &[u32; 256], home: usize) -> u8
     requires { ⌜ home < 32 ⌝ }
-    ensures { λ r. ⌜ r ≡ circleOf (waiting (now (waits .entry))) home ⌝ }
+    ensures { λ r. ⌜ r ≡ circleOf (waitsIn (now (sheet .entry))) home ⌝ }
 {
-    let all: &[u8] = waits;
     let mut low = home;
-    let mut job = all[home] as usize;
+    let mut job = waits_of(sheet, home);
     let mut steps: usize = 32;
     while 0 < steps {
         if 32 <= job {
@@ -30,20 +31,21 @@ pub(crate) fn circle_of(waits: &[u8; 32], home: usize) -> u8
             return low as u8;
         }
         low = lower(low, job);
-        job = all[job] as usize;
+        job = waits_of(sheet, job);
         steps -= 1;
     }
     NOBODY
 }
 
-// The circle of each job, found once.
-pub(crate) fn circles(waits: &[u8; 32]) -> [u8; 32]
-    ensures { λ r. ⌜ r ≡ circlesOf (waiting (now (waits .entry))) ⌝ }
+// The circle of each job, found once; from the n-th job on nobody waits.
+pub(crate) fn circles(sheet: &[u32; 256], n: usize) -> [u8; 32]
+    requires { ⌜ (n ≤ 32) × ((i : ℕ) → n ≤ i → waitsIn (now sheet) i ≡ nobody) ⌝ }
+    ensures { λ r. ⌜ r ≡ circlesOf (waitsIn (now (sheet .entry))) ⌝ }
 {
     let mut found = [NOBODY; 32];
     let mut job: usize = 0;
-    while job < 32 {
-        found[job] = circle_of(waits, job);
+    while job < n {
+        found[job] = circle_of(sheet, job);
         job += 1;
     }
     found

@@ -1,27 +1,69 @@
-// The first part of a book's plan (02, R-2): the circles are settled, one round is made, and nothing is done for later ones.
+// The first part of a book's plan (02, R-2): the circles are settled, one round is made, and nothing is done for later ones. No state is made:
+// the sheet says all that a round asks.
 ghost use mathlib.Core.Path.{_≡_};
+ghost use Rattle.gus.specs.Choice.{byDensity};
 ghost use Rattle.planner.specs.Planned.{plannedOf};
-ghost use Rattle.planner.specs.First.{firstIn};
+ghost use Rattle.planner.specs.Standing.{Accepted};
+ghost use Rattle.planner.specs.First.{firstIn, firstBy, refusedFirst};
+ghost use Rattle.planner.specs.Answering.{firstFrom};
 use crate::FirstPart;
-use crate::Planned;
-use crate::plan::plan_in;
+use crate::GroupParts;
+use crate::plan::KNOT;
+use crate::prepare::prepare;
+use crate::round::round;
+use book::Judged;
+use book::judge::judge;
+use gus::Part;
 
-fn first_of(p: Planned) -> FirstPart
-    ensures { λ r. ⌜ r ≡ firstIn p ⌝ }
+fn refused_first(number: u8, place: usize) -> FirstPart
+    ensures { λ r. ⌜ r ≡ refusedFirst number place ⌝ }
 {
-    let part = p.parts[0];
+    let part = Part {
+        job: 0,
+        rolling: false,
+        time: 0,
+    };
     FirstPart {
-        number: p.number,
-        place: p.place,
-        some: 0 < p.count,
+        number,
+        place,
+        some: false,
         part,
     }
+}
+
+fn first_of(g: GroupParts) -> FirstPart
+    ensures { λ r. ⌜ r ≡ firstFrom g ⌝ }
+{
+    let part = g.parts[0];
+    FirstPart {
+        number: 0,
+        place: 0,
+        some: 0 < g.count,
+        part,
+    }
+}
+
+fn first_accepted(bytes: &[u8], j: Judged) -> FirstPart
+    requires { ⌜ Accepted (now bytes) j ⌝ }
+    ensures { λ r. ⌜ r ≡ firstBy byDensity (now (bytes .entry)) ⌝ }
+{
+    let mut sheet = [0u32; 256];
+    let mut asks = [255u8; 32];
+    let v = prepare(bytes, j, &mut sheet, &mut asks);
+    if v.knot < 32 {
+        return refused_first(KNOT, v.knot as usize);
+    }
+    let g = round(bytes, &sheet, j.jobs, j.now);
+    first_of(g)
 }
 
 // That one round tells the whole plan's first part is `first-planned`.
 pub fn first_part(bytes: &[u8]) -> FirstPart
     ensures { λ r. ⌜ r ≡ firstIn (plannedOf (now (bytes .entry))) ⌝ }
 {
-    let p = plan_in(bytes, 1);
-    first_of(p)
+    let j = judge(bytes);
+    if 0 < j.number {
+        return refused_first(j.number, j.place);
+    }
+    first_accepted(bytes, j)
 }

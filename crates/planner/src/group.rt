@@ -1,15 +1,13 @@
 // The group of a job (VI.3).
 ghost use mathlib.Core.Path.{_≡_};
-ghost use mathlib.Core.Bool.{Bool, cond};
-ghost use mathlib.Core.List.{List};
-ghost use Prim.Native.Nat.{_≤_, _<_};
-ghost use lib.ListN.{getD};
+ghost use mathlib.Core.Bool.{cond};
+ghost use Prim.Native.Nat.{_≤_};
 ghost use Rattle.gus.specs.Course.{start};
 ghost use Rattle.gus.specs.Choice.{byDensity};
 ghost use Rattle.gus.specs.Group.{toFree, grow, groupOf};
-ghost use Rattle.planner.specs.Seen.{seen, seenTimes};
-ghost use Rattle.planner.specs.Bounds.{Modest, Small, Planned};
-ghost use Rattle.planner.specs.Placed.{chainIn, Below};
+ghost use Rattle.planner.specs.Sheet.{seen};
+ghost use Rattle.laws.specs.Placed.{chainIn};
+ghost use Rattle.planner.specs.Asking.{Stepping, Freeing, Along};
 ghost use Rattle.planner.specs.LaidOut.{laidOut};
 use crate::GroupParts;
 use crate::chain::follow;
@@ -17,67 +15,61 @@ use crate::choice::rolls_back;
 use crate::course::credit;
 use crate::course::pass;
 use crate::course::to_end;
+use crate::sheet::hold_for;
+use crate::sheet::rollback_of;
+use crate::sheet::rolls;
+use crate::sheet::run_of;
+use crate::sheet::undo_for;
 use crate::wide;
 use gus::Course;
 use gus::Part;
 
-// The time of a part: `backward` has it where the job rolls back, `forward` where it runs.
-fn time_in<'a>(back: bool, backward: &'a [u32; 32], forward: &'a [u32; 32], i: usize) -> u16
-    requires { ⌜ (i < 32) × ((getD (now backward) i 0 ≤ 65535) × (getD (now forward) i 0 ≤ 65535)) ⌝ }
-    ensures { λ r. ⌜ r ≡ cond back (getD (now (backward .entry)) i 0) (getD (now (forward .entry)) i 0) ⌝ }
+// The time of a part, by its mode.
+fn time_in(back: bool, backward: u32, forward: u32) -> u16
+    requires { ⌜ (backward ≤ 65535) × (forward ≤ 65535) ⌝ }
+    ensures { λ r. ⌜ r ≡ cond back backward forward ⌝ }
 {
     if back {
-        backward[i] as u16
+        backward as u16
     } else {
-        forward[i] as u16
+        forward as u16
     }
 }
 
 // A job in the mode chosen, until what the next one requests is free: a run of all its run time earns its worth.
 pub(crate) fn to_free<'a>(
     bytes: &'a [u8],
-    places: &'a [usize; 32],
-    run: &'a [u32; 32],
-    rollback: &'a [u32; 32],
-    hold: &'a [u32; 32],
-    undo: &'a [u32; 32],
-    rolling: &'a [bool; 32],
+    sheet: &'a [u32; 256],
     job: usize,
     next: usize,
     back: bool,
     t: u32,
     c: Course,
 ) -> Course
-    requires { ⌜ Modest (seenTimes (now bytes) (now places) (now run) (now rollback) (now hold) (now undo) (now rolling)) ⌝ }
-    requires { ⌜ (job < 32) × ((next < 32) × Planned t) ⌝ }
-    requires { ⌜ Small 31 c ⌝ }
-    ensures { λ r. ⌜ r ≡ toFree (seenTimes (now (bytes .entry)) (now (places .entry)) (now (run .entry)) (now (rollback .entry)) (now (hold .entry)) (now (undo .entry)) (now (rolling .entry))) t job next back c ⌝ }
+    requires { ⌜ Freeing (seen (now bytes) (now sheet)) t job next c ⌝ }
+    ensures { λ r. ⌜ r ≡ toFree (seen (now (bytes .entry)) (now (sheet .entry))) t job next back c ⌝ }
 {
     if back {
-        return pass(c, undo[next]);
+        let until = undo_for(sheet, next);
+        return pass(c, until);
     }
-    if hold[next] == run[job] {
-        return credit(bytes, places, job, t, hold[next], c);
+    let until = hold_for(sheet, next);
+    if until == run_of(sheet, job) {
+        return credit(bytes, sheet, job, t, until, c);
     }
-    pass(c, hold[next])
+    pass(c, until)
 }
 
 // The group of the chain at places from .. 32.
 fn grow<'a>(
     bytes: &'a [u8],
-    places: &'a [usize; 32],
-    run: &'a [u32; 32],
-    rollback: &'a [u32; 32],
-    hold: &'a [u32; 32],
-    undo: &'a [u32; 32],
-    rolling: &'a [bool; 32],
+    sheet: &'a [u32; 256],
     members: &'a [u8; 32],
     from: usize,
     t: u32,
 ) -> GroupParts
-    requires { ⌜ Modest (seenTimes (now bytes) (now places) (now run) (now rollback) (now hold) (now undo) (now rolling)) ⌝ }
-    requires { ⌜ (Below 32 (now members)) × ((from < 32) × Planned t) ⌝ }
-    ensures { λ r. ⌜ r ≡ laidOut (grow byDensity (seenTimes (now (bytes .entry)) (now (places .entry)) (now (run .entry)) (now (rollback .entry)) (now (hold .entry)) (now (undo .entry)) (now (rolling .entry))) t (chainIn (now (members .entry)) from) start) ⌝ }
+    requires { ⌜ Along (seen (now bytes) (now sheet)) t (now members) from start ⌝ }
+    ensures { λ r. ⌜ r ≡ laidOut (grow byDensity (seen (now (bytes .entry)) (now (sheet .entry))) t (chainIn (now (members .entry)) from) start) ⌝ }
 {
     let empty = Part {
         job: 0,
@@ -92,52 +84,27 @@ fn grow<'a>(
         let number = members[k];
         let job = wide(number);
         let next = wide(members[k + 1]);
-        let back = rolls_back(
-            bytes,
-            places,
-            run,
-            rollback,
-            hold,
-            undo,
-            rolling,
-            members,
-            k,
-            t,
-            c,
-        );
-        let time = time_in(back, undo, hold, next);
+        let back = rolls_back(bytes, sheet, members, k, t, c);
+        let time = time_in(back, undo_for(sheet, next), hold_for(sheet, next));
         parts[n] = Part {
             job: number,
             rolling: back,
             time,
         };
-        c = to_free(
-            bytes,
-            places,
-            run,
-            rollback,
-            hold,
-            undo,
-            rolling,
-            job,
-            next,
-            back,
-            t,
-            c,
-        );
+        c = to_free(bytes, sheet, job, next, back, t, c);
         n += 1;
         k += 1;
     }
     let number = members[31];
     let job = wide(number);
-    let back = rolling[job];
-    let time = time_in(back, rollback, run, job);
+    let back = rolls(sheet, job);
+    let time = time_in(back, rollback_of(sheet, job), run_of(sheet, job));
     parts[n] = Part {
         job: number,
         rolling: back,
         time,
     };
-    let course = to_end(bytes, places, run, rollback, hold, undo, rolling, job, t, c);
+    let course = to_end(bytes, sheet, job, t, c);
     let count = n + 1;
     GroupParts {
         parts,
@@ -146,35 +113,11 @@ fn grow<'a>(
     }
 }
 
-// The group of a job, whoever is left.
-pub(crate) fn group<'a>(
-    bytes: &'a [u8],
-    places: &'a [usize; 32],
-    run: &'a [u32; 32],
-    rollback: &'a [u32; 32],
-    hold: &'a [u32; 32],
-    undo: &'a [u32; 32],
-    rolling: &'a [bool; 32],
-    waits: &'a [u8; 32],
-    last: usize,
-    t: u32,
-) -> GroupParts
-    requires { ⌜ Modest (seenTimes (now bytes) (now places) (now run) (now rollback) (now hold) (now undo) (now rolling)) ⌝ }
-    requires { ⌜ (last < 32) × Planned t ⌝ }
-    ensures { λ r. ⌜ ((left : List Bool) → r ≡ laidOut (groupOf byDensity (seen (now (bytes .entry)) (now (places .entry)) (now (run .entry)) (now (rollback .entry)) (now (hold .entry)) (now (undo .entry)) (now (rolling .entry)) left (now (waits .entry))) t last)) ⌝ }
+pub(crate) fn group<'a>(bytes: &'a [u8], sheet: &'a [u32; 256], last: usize, t: u32) -> GroupParts
+    requires { ⌜ Stepping (seen (now bytes) (now sheet)) t last start ⌝ }
+    ensures { λ r. ⌜ r ≡ laidOut (groupOf byDensity (seen (now (bytes .entry)) (now (sheet .entry))) t last) ⌝ }
 {
     let mut members = [0u8; 32];
-    let from = follow(waits, last, &mut members);
-    grow(
-        bytes,
-        places,
-        run,
-        rollback,
-        hold,
-        undo,
-        rolling,
-        &members,
-        from,
-        t,
-    )
+    let from = follow(sheet, last, &mut members);
+    grow(bytes, sheet, &members, from, t)
 }

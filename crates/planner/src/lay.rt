@@ -1,77 +1,101 @@
-// The arrays of a round, laid out from the jobs.
+// The sheet of a book's jobs, laid from its bytes: no record and no job is made for it.
 ghost use mathlib.Core.Path.{_≡_};
-ghost use mathlib.Core.Bool.{_&&_, cond};
 ghost use Prim.Native.Nat.{_<_};
-ghost use lib.Dec.{ltb};
-ghost use Rattle.gus.specs.Waits.{nobody};
-ghost use Rattle.planner.specs.Laid.{placeOf, laid};
-use crate::Links;
-use crate::State;
+ghost use lib.ListN.{replicate};
+ghost use Rattle.book.specs.Format.{bookOf};
+ghost use Rattle.planner.specs.Standing.{Standing};
+ghost use Rattle.planner.specs.Laid.{LaidRows, LaidAsks};
+ghost use Rattle.planner.specs.RowLaid.{waitingRow, rowLaid};
+ghost use Rattle.planner.specs.RowRight.{RowThere};
+use crate::keep::link;
+use crate::keep::put;
+use crate::keep::put_own;
+use crate::sheet::END;
+use crate::sheet::PIECES;
+use crate::sheet::WAITS;
 use crate::wide;
-use job::Held;
+use cursor::field::value_at;
+use opening::head::head_at;
+use opening::held::held_at;
 
-fn long(n: u16) -> u32
-    ensures { λ r. ⌜ r ≡ n ⌝ }
+// Whom a job waits for that requests this resource, and how long that one needs it.
+fn lay_wait<'a>(
+    bytes: &'a [u8],
+    starts: &'a [usize; 33],
+    holders: &'a [u8; 32],
+    job: usize,
+    resource: usize,
+    sheet: &mut [u32; 256],
+)
+    requires { ⌜ job < 32 ⌝ }
+    ensures { λ _. ⌜ now (sheet .exit) ≡ waitingRow (now (bytes .entry)) (now (starts .entry)) (now (holders .entry)) job resource (now (sheet .entry)) ⌝ }
 {
-    n as u32
+    if 32 <= resource {
+        return;
+    }
+    let holder = holders[resource];
+    let row = wide(holder);
+    if 32 <= row {
+        return;
+    }
+    let held = held_at(bytes, starts[row], resource);
+    link(sheet, job, holder, held.hold, held.rollback);
 }
 
-fn is_left(run: u16, rollback: u16) -> bool
-    ensures { λ r. ⌜ r ≡ ltb 0 run && ltb 0 rollback ⌝ }
+// The row of one job, from the bytes of its record. Its curve stands after its held list.
+fn lay_row<'a>(
+    bytes: &'a [u8],
+    starts: &'a [usize; 33],
+    holders: &'a [u8; 32],
+    job: usize,
+    sheet: &mut [u32; 256],
+)
+    requires { ⌜ RowThere (now bytes) (now starts) (now holders) job ⌝ }
+    ensures { λ _. ⌜ now (sheet .exit) ≡ rowLaid (now (bytes .entry)) (now (starts .entry)) (now (holders .entry)) job (now (sheet .entry)) ⌝ }
 {
-    if 0 < run { 0 < rollback } else { false }
+    let place = starts[job];
+    let head = head_at(bytes, place);
+    let curve = place + 11 + 5 * head.holds;
+    let pieces = value_at(bytes, curve, 1);
+    let end = curve + 1 + 10 * pieces;
+    put(sheet, END, job, end as u32);
+    put(sheet, PIECES, job, pieces as u32);
+    put_own(sheet, job, head.run, head.rollback, head.rolling);
+    let resource = wide(head.request.resource);
+    lay_wait(bytes, starts, holders, job, resource, sheet);
 }
 
-// A number below 32 stays.
-fn place(n: u8) -> usize
-    ensures { λ r. ⌜ (r ≡ placeOf n) × (r < 32) ⌝ }
+// The sheet comes in as zeros, so that a row without a job has only to wait for nobody.
+pub(crate) fn lay<'a>(
+    bytes: &'a [u8],
+    starts: &'a [usize; 33],
+    holders: &'a [u8; 32],
+    n: usize,
+    sheet: &mut [u32; 256],
+)
+    requires { ⌜ (Standing (now bytes) (now starts) (now holders) n) × (now sheet ≡ replicate 256 0) ⌝ }
+    ensures { λ _. ⌜ LaidRows (now (bytes .entry)) (now (sheet .exit)) ⌝ }
 {
-    if n < 32 { n as usize } else { 0 }
-}
-
-// What is said of a number below 32; else nobody is.
-fn holder_of(resource: u8, holder: u8) -> u8
-    ensures { λ r. ⌜ r ≡ cond (ltb resource 32) holder nobody ⌝ }
-{
-    if resource < 32 { holder } else { 255 }
-}
-
-pub(crate) fn lay(s: State) -> Links
-    ensures { λ r. ⌜ r ≡ laid s ⌝ }
-{
-    let mut l = Links {
-        left: [false; 32],
-        waits: [255u8; 32],
-        hold: [0u32; 32],
-        undo: [0u32; 32],
-        run: [0u32; 32],
-        rollback: [0u32; 32],
-        rolling: [false; 32],
-    };
     let mut i: usize = 0;
     while i < 32 {
-        let job = s.jobs[i];
-        let request = job.request;
-        let r = place(request.resource);
-        let holder = holder_of(request.resource, s.holders[r]);
-        let mut held = Held {
-            hold: 0,
-            rollback: 0,
-        };
-        // Most jobs wait for nobody, and an owner's list is 128 bytes to copy.
-        if holder < 32 {
-            let k = wide(holder);
-            let owner = s.jobs[k];
-            held = owner.held[r];
+        if i < n {
+            lay_row(bytes, starts, holders, i, sheet);
+        } else {
+            put(sheet, WAITS, i, 255);
         }
-        l.left[i] = is_left(job.run, job.rollback);
-        l.waits[i] = holder;
-        l.hold[i] = long(held.hold);
-        l.undo[i] = long(held.rollback);
-        l.run[i] = long(job.run);
-        l.rollback[i] = long(job.rollback);
-        l.rolling[i] = job.rolling;
         i += 1;
     }
-    l
+}
+
+// What each job asks for; who asks for nothing has 255, and so has a row without a job.
+pub(crate) fn lay_asks<'a>(bytes: &'a [u8], starts: &'a [usize; 33], n: usize, asks: &mut [u8; 32])
+    requires { ⌜ (Standing (now bytes) (now starts) (bookOf (now bytes) .holders) n) × (now asks ≡ replicate 32 255) ⌝ }
+    ensures { λ _. ⌜ LaidAsks (now (bytes .entry)) (now (asks .exit)) ⌝ }
+{
+    let mut i: usize = 0;
+    while i < n {
+        let place = starts[i] + 5; // of the request, whose first byte is the resource
+        asks[i] = bytes[place];
+        i += 1;
+    }
 }

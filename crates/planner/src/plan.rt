@@ -1,26 +1,24 @@
 // The plan of a book: the reader's refusal, KNOT, or the victims and the rounds after them.
 ghost use mathlib.Core.Path.{_≡_};
-ghost use Prim.Native.Nat.{_≤_};
+ghost use Rattle.planner.specs.Planned.{refusedPlan, plannedOf};
+ghost use Rattle.planner.specs.Standing.{Accepted};
 ghost use Rattle.book.specs.Format.{bookOf};
-ghost use Rattle.gus.specs.Choice.{byDensity};
-ghost use Rattle.planner.specs.Seen.{paid};
-ghost use Rattle.planner.specs.Planned.{refusedPlan, answeredTo, plannedTo, plannedOf};
-ghost use Rattle.planner.specs.Answering.{Accepted, Taken, planIn};
-use crate::Opened;
+ghost use Rattle.opening.specs.Planned.{viewFrom};
+ghost use Rattle.planner.specs.Listing.{listed};
+ghost use Rattle.planner.specs.Answering.{planIn, firstState, Cleared};
+use crate::PlanParts;
 use crate::Planned;
-use crate::Stage;
-use crate::State;
 use crate::Victims;
-use crate::lay::lay;
-use crate::listing::victims;
-use crate::places::curve_place;
+use crate::prepare::prepare;
 use crate::rounds::rounds;
 use crate::settle::settle;
-use crate::start::job_of;
-use crate::start::no_job;
+use book::Judged;
+use book::judge::judge;
 use gus::Part;
+use opening::State;
+use opening::start::open_state;
 
-const KNOT: u8 = 10;
+pub(crate) const KNOT: u8 = 10;
 
 fn refused_plan(number: u8, place: usize) -> Planned
     ensures { λ r. ⌜ r ≡ refusedPlan number place ⌝ }
@@ -43,89 +41,72 @@ fn refused_plan(number: u8, place: usize) -> Planned
     }
 }
 
-// What the plan takes from a book, so that its records, 10 KB, are gone before the rounds. They are read where they stand.
-fn open_book(bytes: &[u8]) -> Opened
-    ensures { λ r. ⌜ Taken (now (bytes .entry)) (bookOf (now (bytes .entry))) r ⌝ }
-{
-    let b = book::reader::read_book(bytes);
-    let none = no_job();
-    let mut jobs = [none; 32];
-    let end = bytes.len();
-    let mut places = [0usize; 32];
-    let mut i: usize = 0;
-    while i < 32 {
-        let x = b.records[i];
-        let span = b.spans[i];
-        jobs[i] = job_of(x);
-        places[i] = curve_place(i, b.jobs, span.start, x.holds, end);
-        i += 1;
-    }
-    let holders = b.holders;
-    let state = State { jobs, holders };
-    Opened {
-        number: b.number,
-        place: b.place,
-        now: b.now,
-        state,
-        places,
-    }
-}
-
-fn plan_of(v: Victims, s: Stage) -> Planned
-    ensures { λ r. ⌜ r ≡ planIn v s ⌝ }
+fn plan_of(v: Victims, p: PlanParts) -> Planned
+    ensures { λ r. ⌜ r ≡ planIn v p ⌝ }
 {
     let list = v.list;
-    let parts = s.parts;
+    let parts = p.parts;
     Planned {
         number: 0,
         place: 0,
         victims: list,
         victimcount: v.count,
         parts,
-        count: s.count,
-        rounds: s.rounds,
-        total: s.total,
-        end: s.moment,
+        count: p.count,
+        rounds: p.rounds,
+        total: p.total,
+        end: p.moment,
     }
 }
 
-fn answer<'a>(bytes: &'a [u8], places: &'a [usize; 32], s: State, t: u32, limit: usize) -> Planned
-    requires { ⌜ Accepted (paid (now bytes) (now places)) s t ⌝ }
-    requires { ⌜ limit ≤ 32 ⌝ }
-    ensures { λ r. ⌜ r ≡ answeredTo limit byDensity (paid (now (bytes .entry)) (now (places .entry))) (s .jobs) t ⌝ }
+// The state of the first round, with the victims in rollback. Opening and settling are a function of their own, and so are the rounds: with
+// more code around it the compiler no longer joins the copies that handing the state on would make, 4 KB of stack each.
+fn first_state(bytes: &[u8], j: Judged, v: Victims) -> State
+    requires { ⌜ Accepted (now bytes) j ⌝ }
+    requires { ⌜ v ≡ listed (viewFrom (bookOf (now bytes))) (bookOf (now bytes) .now) ⌝ }
+    ensures { λ r. ⌜ r ≡ firstState (now (bytes .entry)) ⌝ }
 {
-    let l = lay(s);
-    let v = victims(bytes, places, &l.run, &l.rollback, &l.waits, t);
+    let holders = j.holders;
+    let opened = open_state(bytes, &j.starts, holders, j.jobs);
+    settle(opened, v)
+}
+
+fn plan_rounds(
+    bytes: &[u8],
+    j: Judged,
+    v: Victims,
+    sheet: &mut [u32; 256],
+    asks: &mut [u8; 32],
+) -> PlanParts
+    requires { ⌜ Cleared (now bytes) j (now sheet) (now asks) v ⌝ }
+    ensures { λ r. ⌜ planIn v r ≡ plannedOf (now (bytes .entry)) ⌝ }
+{
+    let state = first_state(bytes, j, v);
+    rounds(bytes, state, sheet, asks, j.jobs, j.now)
+}
+
+// The sheet is laid only for a book that is accepted: it would be most of what a refused one costs.
+fn plan_accepted(bytes: &[u8], j: Judged) -> Planned
+    requires { ⌜ Accepted (now bytes) j ⌝ }
+    ensures { λ r. ⌜ r ≡ plannedOf (now (bytes .entry)) ⌝ }
+{
+    let mut sheet = [0u32; 256];
+    let mut asks = [255u8; 32];
+    let v = prepare(bytes, j, &mut sheet, &mut asks);
     if v.knot < 32 {
         return refused_plan(KNOT, v.knot as usize);
     }
-    let jobs = s.jobs;
-    let holders = s.holders;
-    let left = settle(jobs, v);
-    let state = State {
-        jobs: left,
-        holders,
-    };
-    let last = rounds(bytes, places, state, t, limit);
-    plan_of(v, last)
-}
-
-// The plan of at most `limit` rounds.
-pub(crate) fn plan_in(bytes: &[u8], limit: usize) -> Planned
-    requires { ⌜ limit ≤ 32 ⌝ }
-    ensures { λ r. ⌜ r ≡ plannedTo limit byDensity (now (bytes .entry)) ⌝ }
-{
-    let o = open_book(bytes);
-    if 0 < o.number {
-        return refused_plan(o.number, o.place);
-    }
-    let state = o.state;
-    answer(bytes, &o.places, state, o.now, limit)
+    let p = plan_rounds(bytes, j, v, &mut sheet, &mut asks);
+    plan_of(v, p)
 }
 
 // No more rounds than jobs, since each ends one.
 pub fn plan(bytes: &[u8]) -> Planned
     ensures { λ r. ⌜ r ≡ plannedOf (now (bytes .entry)) ⌝ }
 {
-    plan_in(bytes, 32)
+    let j = judge(bytes);
+    if 0 < j.number {
+        return refused_plan(j.number, j.place);
+    }
+    plan_accepted(bytes, j)
 }

@@ -2,8 +2,8 @@
 ghost use mathlib.Core.Path.{_≡_};
 ghost use Rattle.gus.specs.Choice.{byDensity};
 ghost use Rattle.gus.specs.Round.{worthwhile};
-ghost use Rattle.planner.specs.Seen.{seen, seenTimes};
-ghost use Rattle.planner.specs.Bounds.{Modest, Planned};
+ghost use Rattle.planner.specs.Sheet.{seen};
+ghost use Rattle.planner.specs.Asking.{Scanning};
 ghost use Rattle.planner.specs.LaidOut.{laidOut};
 ghost use Rattle.planner.specs.Round.{noGroup, roundOf};
 use crate::GroupParts;
@@ -37,49 +37,15 @@ fn no_group() -> GroupParts
 }
 
 // A group without parts: no group is worth more than zero, and the plan ends.
-pub(crate) fn round<'a>(
-    bytes: &'a [u8],
-    places: &'a [usize; 32],
-    run: &'a [u32; 32],
-    rollback: &'a [u32; 32],
-    hold: &'a [u32; 32],
-    undo: &'a [u32; 32],
-    rolling: &'a [bool; 32],
-    left: &'a [bool; 32],
-    waits: &'a [u8; 32],
-    t: u32,
-) -> GroupParts
-    requires { ⌜ Modest (seenTimes (now bytes) (now places) (now run) (now rollback) (now hold) (now undo) (now rolling)) ⌝ }
-    requires { ⌜ Planned t ⌝ }
-    ensures { λ r. ⌜ r ≡ laidOut (roundOf byDensity (seen (now (bytes .entry)) (now (places .entry)) (now (run .entry)) (now (rollback .entry)) (now (hold .entry)) (now (undo .entry)) (now (rolling .entry)) (now (left .entry)) (now (waits .entry))) t) ⌝ }
+pub(crate) fn round<'a>(bytes: &'a [u8], sheet: &'a [u32; 256], n: usize, t: u32) -> GroupParts
+    requires { ⌜ Scanning (seen (now bytes) (now sheet)) n t ⌝ }
+    ensures { λ r. ⌜ r ≡ laidOut (roundOf byDensity (seen (now (bytes .entry)) (now (sheet .entry))) t) ⌝ }
 {
-    let b = scan(
-        bytes,
-        places,
-        run,
-        rollback,
-        hold,
-        undo,
-        rolling,
-        left,
-        waits,
-        t,
-    );
+    let b = scan(bytes, sheet, n, t);
     let best = b.course;
     if above_zero(best) {
         let last = wide(b.last);
-        return group(
-            bytes,
-            places,
-            run,
-            rollback,
-            hold,
-            undo,
-            rolling,
-            waits,
-            last,
-            t,
-        );
+        return group(bytes, sheet, last, t);
     }
     no_group()
 }

@@ -1,34 +1,21 @@
 // Round after round (VI.1), until no group is worth more than zero.
 ghost use mathlib.Core.Path.{_≡_};
-ghost use Prim.Native.Nat.{_+_, _≤_};
+ghost use Prim.Native.Nat.{_≤_};
 ghost use lib.IntN.{natAbs, _+ℤ_};
-ghost use lib.ListN.{take};
+ghost use Rattle.book.specs.Format.{bookOf};
 ghost use Rattle.gus.specs.Choice.{byDensity};
 ghost use Rattle.gus.specs.Round.{rounds};
-ghost use Rattle.planner.specs.Seen.{paid};
-ghost use Rattle.planner.specs.Appended.{appended};
-ghost use Rattle.planner.specs.Fitting.{Sane};
+ghost use Rattle.opening.specs.Start.{payFrom};
+ghost use Rattle.planner.specs.Working.{Starting};
 ghost use Rattle.planner.specs.Staged.{Rounded};
-use crate::Stage;
-use crate::State;
-use crate::apply::apply_all;
-use crate::lay::lay;
+use crate::PlanParts;
+use crate::apply::holders_after;
+use crate::apply::worked_job;
+use crate::keep::put_worked;
 use crate::round::round;
+use crate::wide;
 use gus::Part;
-
-// The first n parts of a group, after the parts of the plan so far.
-fn append(mut plan: [Part; 96], count: usize, parts: [Part; 32], n: usize) -> [Part; 96]
-    requires { ⌜ (n ≤ 32) × (count + n ≤ 96) ⌝ }
-    ensures { λ r. ⌜ r ≡ appended plan count (take n parts) ⌝ }
-{
-    let mut i: usize = 0;
-    while i < n {
-        let p = parts[i];
-        plan[count + i] = p;
-        i += 1;
-    }
-    plan
-}
+use opening::State;
 
 fn sum(total: i32, gain: i32) -> i32
     requires { ⌜ (natAbs total ≤ 1_024_000_000) × (natAbs gain ≤ 32_000_000) ⌝ }
@@ -37,61 +24,36 @@ fn sum(total: i32, gain: i32) -> i32
     total + gain
 }
 
-// At most `limit` rounds. The state stands in one local: handed from function to function it would be copied each time, and that is
-// most of what a round with short chains costs. After the last round that may be made nobody asks for it, so there it is left as it
-// was.
+// The state stands in one local from the first round to the last, and each part changes there what it touches: handed from function to
+// function it would be copied each time, and that is most of what a round with short chains costs.
 pub(crate) fn rounds<'a>(
     bytes: &'a [u8],
-    places: &'a [usize; 32],
-    state: State,
+    start: State,
+    sheet: &mut [u32; 256],
+    asks: &mut [u8; 32],
+    n: usize,
     t: u32,
-    limit: usize,
-) -> Stage
-    requires { ⌜ (Sane (paid (now bytes) (now places)) state) × (t ≤ 2147483647) ⌝ }
-    requires { ⌜ limit ≤ 32 ⌝ }
-    ensures { λ r. ⌜ Rounded (rounds limit byDensity (paid (now (bytes .entry)) (now (places .entry))) (state .jobs) t) r ⌝ }
+) -> PlanParts
+    requires { ⌜ Starting (now bytes) start (now sheet) (now asks) n t ⌝ }
+    ensures { λ r. ⌜ Rounded (rounds 32 byDensity (payFrom (bookOf (now (bytes .entry)))) (start .jobs) t) r ⌝ }
 {
     let empty = Part {
         job: 0,
         rolling: false,
         time: 0,
     };
-    let mut current = state;
+    let mut state = start;
     let mut plan = [empty; 96];
     let mut count: usize = 0;
     let mut total: i32 = 0;
     let mut moment: u32 = t;
     let mut i: usize = 0;
-    while i < limit {
-        let l = lay(current);
-        let g = round(
-            bytes,
-            places,
-            &l.run,
-            &l.rollback,
-            &l.hold,
-            &l.undo,
-            &l.rolling,
-            &l.left,
-            &l.waits,
-            moment,
-        );
-        let n = g.count;
-        if 0 < n {
-            let parts = g.parts;
-            let course = g.course;
-            let longer = append(plan, count, parts, n);
-            plan = longer;
-            count += n;
-            total = sum(total, course.gain);
-            moment += course.time;
-            i += 1;
-            if i < limit {
-                current = apply_all(current, parts, n);
-            }
-        } else {
-            return Stage {
-                state: current,
+    while i < 32 {
+        let g = round(bytes, sheet, n, moment);
+        let parts = g.parts;
+        let course = g.course;
+        if g.count == 0 {
+            return PlanParts {
                 parts: plan,
                 count,
                 rounds: i,
@@ -99,9 +61,27 @@ pub(crate) fn rounds<'a>(
                 moment,
             };
         }
+        let mut k: usize = 0;
+        while k < g.count {
+            let p = parts[k];
+            let number = wide(p.job);
+            let old = state.jobs[number];
+            let new = worked_job(old, p.rolling, p.time);
+            state.jobs[number] = new;
+            let holders = state.holders;
+            let held = new.held;
+            let handed = holders_after(holders, p.job, held);
+            state.holders = handed;
+            put_worked(sheet, asks, n, p.job, new);
+            plan[count + k] = p;
+            k += 1;
+        }
+        count += g.count;
+        total = sum(total, course.gain);
+        moment += course.time;
+        i += 1;
     }
-    Stage {
-        state: current,
+    PlanParts {
         parts: plan,
         count,
         rounds: i,

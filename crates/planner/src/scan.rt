@@ -1,18 +1,26 @@
 // The best group of a round (VI.1).
 ghost use mathlib.Core.Path.{_≡_};
+ghost use mathlib.Core.Bool.{_&&_};
 ghost use Prim.Native.Nat.{_<_};
-ghost use Rattle.gus.specs.Course.{start};
+ghost use lib.Dec.{ltb};
+ghost use Rattle.gus.specs.Course.{start, toEnd};
 ghost use Rattle.gus.specs.Choice.{byDensity};
-ghost use Rattle.gus.specs.Group.{grow};
-ghost use Rattle.gus.specs.Round.{better, consider, bestOf};
-ghost use Rattle.planner.specs.Seen.{seen, seenTimes};
-ghost use Rattle.planner.specs.Bounds.{Modest, Planned};
-ghost use Rattle.planner.specs.Placed.{chainIn, Below};
+ghost use Rattle.gus.specs.Group.{grow, groupOf};
+ghost use Rattle.gus.specs.Round.{consider, bestOf};
+ghost use Rattle.planner.specs.Sheet.{runIn, rollbackIn, seen};
+ghost use Rattle.laws.specs.Placed.{chainIn};
+ghost use Rattle.planner.specs.Asking.{Stepping, Along, Scanning};
+use crate::best::pick;
 use crate::chain::follow;
 use crate::choice::rolls_back;
 use crate::course::beats;
 use crate::course::to_end;
 use crate::group::to_free;
+use crate::sheet::rollback_of;
+use crate::sheet::rolls;
+use crate::sheet::run_of;
+use crate::sheet::waits_of;
+use crate::victim::loss_of;
 use crate::wide;
 use gus::Best;
 use gus::Course;
@@ -20,135 +28,80 @@ use gus::Course;
 // The course of a chain's group, without its parts.
 fn score<'a>(
     bytes: &'a [u8],
-    places: &'a [usize; 32],
-    run: &'a [u32; 32],
-    rollback: &'a [u32; 32],
-    hold: &'a [u32; 32],
-    undo: &'a [u32; 32],
-    rolling: &'a [bool; 32],
+    sheet: &'a [u32; 256],
     members: &'a [u8; 32],
     from: usize,
     t: u32,
 ) -> Course
-    requires { ⌜ Modest (seenTimes (now bytes) (now places) (now run) (now rollback) (now hold) (now undo) (now rolling)) ⌝ }
-    requires { ⌜ (Below 32 (now members)) × ((from < 32) × Planned t) ⌝ }
-    ensures { λ r. ⌜ r ≡ grow byDensity (seenTimes (now (bytes .entry)) (now (places .entry)) (now (run .entry)) (now (rollback .entry)) (now (hold .entry)) (now (undo .entry)) (now (rolling .entry))) t (chainIn (now (members .entry)) from) start .course ⌝ }
+    requires { ⌜ Along (seen (now bytes) (now sheet)) t (now members) from start ⌝ }
+    ensures { λ r. ⌜ r ≡ grow byDensity (seen (now (bytes .entry)) (now (sheet .entry))) t (chainIn (now (members .entry)) from) start .course ⌝ }
 {
     let mut c = Course { time: 0, gain: 0 };
     let mut k = from;
     while k < 31 {
         let job = wide(members[k]);
         let next = wide(members[k + 1]);
-        let back = rolls_back(
-            bytes,
-            places,
-            run,
-            rollback,
-            hold,
-            undo,
-            rolling,
-            members,
-            k,
-            t,
-            c,
-        );
-        c = to_free(
-            bytes,
-            places,
-            run,
-            rollback,
-            hold,
-            undo,
-            rolling,
-            job,
-            next,
-            back,
-            t,
-            c,
-        );
+        let back = rolls_back(bytes, sheet, members, k, t, c);
+        c = to_free(bytes, sheet, job, next, back, t, c);
         k += 1;
     }
     let job = wide(members[31]);
-    to_end(bytes, places, run, rollback, hold, undo, rolling, job, t, c)
+    to_end(bytes, sheet, job, t, c)
 }
 
-// A tie stays with the lower number.
-fn better(job: u8, c: Course, b: Best) -> Best
-    ensures { λ r. ⌜ r ≡ better job c b ⌝ }
+// A job to its end by itself. By running it gives just what it would lose by being sent back.
+fn alone<'a>(bytes: &'a [u8], sheet: &'a [u32; 256], job: usize, t: u32) -> Course
+    requires { ⌜ Stepping (seen (now bytes) (now sheet)) t job start ⌝ }
+    ensures { λ r. ⌜ r ≡ toEnd (seen (now (bytes .entry)) (now (sheet .entry))) t job start ⌝ }
 {
-    let best = b.course;
-    if b.some {
-        if beats(c, best) {
-            return Best {
-                some: true,
-                last: job,
-                course: c,
-            };
-        }
-        return b;
+    if rolls(sheet, job) {
+        let time = rollback_of(sheet, job);
+        return Course { time, gain: 0 };
     }
-    Best {
-        some: true,
-        last: job,
-        course: c,
+    loss_of(bytes, sheet, job, t)
+}
+
+// The course of a job's group. A job that waits for nobody is its whole chain, and most wait for nobody.
+fn score_of<'a>(bytes: &'a [u8], sheet: &'a [u32; 256], last: usize, t: u32) -> Course
+    requires { ⌜ Stepping (seen (now bytes) (now sheet)) t last start ⌝ }
+    ensures { λ r. ⌜ r ≡ groupOf byDensity (seen (now (bytes .entry)) (now (sheet .entry))) t last .course ⌝ }
+{
+    if 32 <= waits_of(sheet, last) {
+        return alone(bytes, sheet, last, t);
     }
+    let mut members = [0u8; 32];
+    let from = follow(sheet, last, &mut members);
+    score(bytes, sheet, &members, from, t)
+}
+
+fn is_left(sheet: &[u32; 256], job: usize) -> bool
+    requires { ⌜ job < 32 ⌝ }
+    ensures { λ r. ⌜ r ≡ ltb 0 (runIn (now (sheet .entry)) job) && ltb 0 (rollbackIn (now (sheet .entry)) job) ⌝ }
+{
+    if 0 < run_of(sheet, job) {
+        return 0 < rollback_of(sheet, job);
+    }
+    false
 }
 
 // A job, if it is left, against the best of those before it.
-fn consider<'a>(
-    bytes: &'a [u8],
-    places: &'a [usize; 32],
-    run: &'a [u32; 32],
-    rollback: &'a [u32; 32],
-    hold: &'a [u32; 32],
-    undo: &'a [u32; 32],
-    rolling: &'a [bool; 32],
-    left: &'a [bool; 32],
-    waits: &'a [u8; 32],
-    job: usize,
-    t: u32,
-    b: Best,
-) -> Best
-    requires { ⌜ Modest (seenTimes (now bytes) (now places) (now run) (now rollback) (now hold) (now undo) (now rolling)) ⌝ }
-    requires { ⌜ (job < 32) × Planned t ⌝ }
-    ensures { λ r. ⌜ r ≡ consider byDensity (seen (now (bytes .entry)) (now (places .entry)) (now (run .entry)) (now (rollback .entry)) (now (hold .entry)) (now (undo .entry)) (now (rolling .entry)) (now (left .entry)) (now (waits .entry))) t job b ⌝ }
+fn consider<'a>(bytes: &'a [u8], sheet: &'a [u32; 256], job: usize, t: u32, b: Best) -> Best
+    requires { ⌜ Stepping (seen (now bytes) (now sheet)) t job start ⌝ }
+    ensures { λ r. ⌜ r ≡ consider byDensity (seen (now (bytes .entry)) (now (sheet .entry))) t job b ⌝ }
 {
-    if left[job] {
-        let mut members = [0u8; 32];
-        let from = follow(waits, job, &mut members);
-        let c = score(
-            bytes,
-            places,
-            run,
-            rollback,
-            hold,
-            undo,
-            rolling,
-            &members,
-            from,
-            t,
-        );
-        return better(job as u8, c, b);
+    if is_left(sheet, job) {
+        let c = score_of(bytes, sheet, job, t);
+        let best = b.course;
+        let wins = beats(c, best);
+        return pick(wins, job as u8, c, b);
     }
     b
 }
 
 // The round's best group, as numbers.
-pub(crate) fn scan<'a>(
-    bytes: &'a [u8],
-    places: &'a [usize; 32],
-    run: &'a [u32; 32],
-    rollback: &'a [u32; 32],
-    hold: &'a [u32; 32],
-    undo: &'a [u32; 32],
-    rolling: &'a [bool; 32],
-    left: &'a [bool; 32],
-    waits: &'a [u8; 32],
-    t: u32,
-) -> Best
-    requires { ⌜ Modest (seenTimes (now bytes) (now places) (now run) (now rollback) (now hold) (now undo) (now rolling)) ⌝ }
-    requires { ⌜ Planned t ⌝ }
-    ensures { λ r. ⌜ r ≡ bestOf byDensity (seen (now (bytes .entry)) (now (places .entry)) (now (run .entry)) (now (rollback .entry)) (now (hold .entry)) (now (undo .entry)) (now (rolling .entry)) (now (left .entry)) (now (waits .entry))) t ⌝ }
+pub(crate) fn scan<'a>(bytes: &'a [u8], sheet: &'a [u32; 256], n: usize, t: u32) -> Best
+    requires { ⌜ Scanning (seen (now bytes) (now sheet)) n t ⌝ }
+    ensures { λ r. ⌜ r ≡ bestOf byDensity (seen (now (bytes .entry)) (now (sheet .entry))) t ⌝ }
 {
     let none = Course { time: 0, gain: 0 };
     let mut b = Best {
@@ -157,21 +110,8 @@ pub(crate) fn scan<'a>(
         course: none,
     };
     let mut job: usize = 0;
-    while job < 32 {
-        b = consider(
-            bytes,
-            places,
-            run,
-            rollback,
-            hold,
-            undo,
-            rolling,
-            left,
-            waits,
-            job,
-            t,
-            b,
-        );
+    while job < n {
+        b = consider(bytes, sheet, job, t, b);
         job += 1;
     }
     b

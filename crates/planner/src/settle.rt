@@ -5,6 +5,7 @@ ghost use Rattle.planner.specs.Settling.{Handed, victimsIn};
 use crate::Victims;
 use job::Job;
 use job::Request;
+use opening::State;
 
 fn sent_back(mut j: Job) -> Job
     ensures { λ r. ⌜ r ≡ sentBack j ⌝ }
@@ -19,17 +20,17 @@ fn sent_back(mut j: Job) -> Job
     j
 }
 
-pub(crate) fn settle(mut jobs: [Job; 32], v: Victims) -> [Job; 32]
+pub(crate) fn settle(mut s: State, v: Victims) -> State
     requires { ⌜ Handed v ⌝ }
-    ensures { λ r. ⌜ r ≡ settled jobs (victimsIn v) ⌝ }
+    ensures { λ r. ⌜ r ≡ record { jobs = settled (s .jobs) (victimsIn v); holders = s .holders } ⌝ }
 {
     let count = v.count;
     let mut k: usize = 0;
     while k < count {
         let victim = v.list[k] as usize;
-        let j = jobs[victim];
-        jobs[victim] = sent_back(j);
+        let j = s.jobs[victim];
+        s.jobs[victim] = sent_back(j);
         k += 1;
     }
-    jobs
+    s
 }

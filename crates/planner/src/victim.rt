@@ -1,78 +1,53 @@
-// The victims of the wait circles (V.1): "the job, not marked never, of least loss".
+// The victim of a wait circle (V.1): "the job, not marked never, of least loss".
 ghost use mathlib.Core.Path.{_≡_};
-ghost use Prim.Native.Nat.{_<_, _≤_};
-ghost use Rattle.gus.specs.Victims.{lossOf, lesser, offer, victimOf};
-ghost use Rattle.planner.specs.Seen.{waiting};
-ghost use Rattle.planner.specs.Bounds.{Modest};
+ghost use Prim.Native.Nat.{_<_};
+ghost use Rattle.gus.specs.Course.{start};
+ghost use Rattle.gus.specs.Victims.{lossOf, offer, victimOf};
+ghost use Rattle.planner.specs.Sheet.{waitsIn, seen};
+ghost use Rattle.planner.specs.Asking.{Stepping, Scanning};
 ghost use Rattle.planner.specs.Circling.{circlesOf};
-ghost use Rattle.planner.specs.Offering.{seenWaits};
+use crate::best::pick;
+use crate::course::beats;
 use crate::course::worth_of;
+use crate::sheet::rollback_of;
+use crate::sheet::run_of;
 use gus::Best;
 use gus::Course;
 
 const NEVER: u32 = 65535;
 
 // "worth at now + run time left, divided by run time left"; no member of a circle is in rollback (R-8).
-fn loss_of<'a>(
-    bytes: &'a [u8],
-    places: &'a [usize; 32],
-    run: &'a [u32; 32],
-    rollback: &'a [u32; 32],
-    waits: &'a [u8; 32],
-    job: usize,
-    t: u32,
-) -> Course
-    requires { ⌜ Modest (seenWaits (now bytes) (now places) (now run) (now rollback) (now waits)) ⌝ }
-    requires { ⌜ (job < 32) × (t ≤ 4_000_000_000) ⌝ }
-    ensures { λ r. ⌜ r ≡ lossOf (seenWaits (now (bytes .entry)) (now (places .entry)) (now (run .entry)) (now (rollback .entry)) (now (waits .entry))) t job ⌝ }
+pub(crate) fn loss_of<'a>(bytes: &'a [u8], sheet: &'a [u32; 256], job: usize, t: u32) -> Course
+    requires { ⌜ Stepping (seen (now bytes) (now sheet)) t job start ⌝ }
+    ensures { λ r. ⌜ r ≡ lossOf (seen (now (bytes .entry)) (now (sheet .entry))) t job ⌝ }
 {
-    let time = run[job];
-    let worth = worth_of(bytes, places, job, t + time);
+    let time = run_of(sheet, job);
+    let worth = worth_of(bytes, sheet, job, t + time);
     let gain = worth as i32;
     Course { time, gain }
 }
 
-// A tie stays with the lower number.
-fn lesser(job: u8, c: Course, b: Best) -> Best
-    ensures { λ r. ⌜ r ≡ lesser job c b ⌝ }
-{
-    let new = Best {
-        some: true,
-        last: job,
-        course: c,
-    };
-    let least = b.course;
-    if b.some {
-        if curve::denser(least.gain, least.time, c.gain, c.time) {
-            return new;
-        }
-        return b;
-    }
-    new
-}
-
 fn offer<'a>(
     bytes: &'a [u8],
-    places: &'a [usize; 32],
-    run: &'a [u32; 32],
-    rollback: &'a [u32; 32],
-    waits: &'a [u8; 32],
+    sheet: &'a [u32; 256],
     circles: &'a [u8; 32],
     low: u8,
     job: usize,
     t: u32,
     b: Best,
 ) -> Best
-    requires { ⌜ Modest (seenWaits (now bytes) (now places) (now run) (now rollback) (now waits)) ⌝ }
-    requires { ⌜ (job < 32) × ((t ≤ 4_000_000_000) × (now circles ≡ circlesOf (waiting (now waits)))) ⌝ }
-    ensures { λ r. ⌜ r ≡ offer (seenWaits (now (bytes .entry)) (now (places .entry)) (now (run .entry)) (now (rollback .entry)) (now (waits .entry))) t low job b ⌝ }
+    requires { ⌜ Stepping (seen (now bytes) (now sheet)) t job start ⌝ }
+    requires { ⌜ now circles ≡ circlesOf (waitsIn (now sheet)) ⌝ }
+    ensures { λ r. ⌜ r ≡ offer (seen (now (bytes .entry)) (now (sheet .entry))) t low job b ⌝ }
 {
     if circles[job] == low {
-        if rollback[job] == NEVER {
+        if rollback_of(sheet, job) == NEVER {
             return b;
         }
-        let c = loss_of(bytes, places, run, rollback, waits, job, t);
-        return lesser(job as u8, c, b);
+        let c = loss_of(bytes, sheet, job, t);
+        let least = b.course;
+        let wins = beats(least, c);
+        return pick(wins, job as u8, c, b);
     }
     b
 }
@@ -80,17 +55,15 @@ fn offer<'a>(
 // The victim of the circle whose lowest member is low.
 pub(crate) fn victim_of<'a>(
     bytes: &'a [u8],
-    places: &'a [usize; 32],
-    run: &'a [u32; 32],
-    rollback: &'a [u32; 32],
-    waits: &'a [u8; 32],
+    sheet: &'a [u32; 256],
     circles: &'a [u8; 32],
     low: u8,
+    n: usize,
     t: u32,
 ) -> Best
-    requires { ⌜ Modest (seenWaits (now bytes) (now places) (now run) (now rollback) (now waits)) ⌝ }
-    requires { ⌜ (t ≤ 4_000_000_000) × (now circles ≡ circlesOf (waiting (now waits))) ⌝ }
-    ensures { λ r. ⌜ r ≡ victimOf (seenWaits (now (bytes .entry)) (now (places .entry)) (now (run .entry)) (now (rollback .entry)) (now (waits .entry))) t low ⌝ }
+    requires { ⌜ Scanning (seen (now bytes) (now sheet)) n t ⌝ }
+    requires { ⌜ (low < 32) × (now circles ≡ circlesOf (waitsIn (now sheet))) ⌝ }
+    ensures { λ r. ⌜ r ≡ victimOf (seen (now (bytes .entry)) (now (sheet .entry))) t low ⌝ }
 {
     let none = Course { time: 0, gain: 0 };
     let mut b = Best {
@@ -99,8 +72,8 @@ pub(crate) fn victim_of<'a>(
         course: none,
     };
     let mut job: usize = 0;
-    while job < 32 {
-        b = offer(bytes, places, run, rollback, waits, circles, low, job, t, b);
+    while job < n {
+        b = offer(bytes, sheet, circles, low, job, t, b);
         job += 1;
     }
     b

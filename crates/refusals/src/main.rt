@@ -2,9 +2,9 @@
 // The table is the file `books`, to be read beside 01; the file stdout was written from 01.
 ghost use Prim.Native.Nat.{_≤_};
 ghost use lib.ListN.{length};
+use book::judge::judge;
 use book::question::find_record;
 use book::question::record_part;
-use book::reader::read_book;
 use libc::STDOUT_FILENO;
 
 pub struct Bytes {
@@ -27,7 +27,7 @@ fn refused(number: u8, place: usize) {
 }
 
 fn read(book: &[u8]) {
-    let b = read_book(book);
+    let b = judge(book);
     if 0 < b.number {
         refused(b.number, b.place);
     } else {

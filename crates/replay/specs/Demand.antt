@@ -14,7 +14,7 @@ use Rattle.gus.specs.Victims.{victimsOf, knotOf, settled}
 use Rattle.gus.specs.Plan.{Answer, answerTo, answerBy}
 use Rattle.invariants.specs.Waiting.{waits-none}
 use Rattle.invariants.specs.Fair.{Fair, by-density-fair}
-use Rattle.invariants.specs.Among.{Among}
+use Rattle.laws.specs.Among.{Among}
 use Rattle.invariants.specs.Victims.{victims-on}
 use Rattle.invariants.specs.Start.{ready-settled}
 use Rattle.invariants.specs.Answer.{answer-replayed}

@@ -13,7 +13,7 @@ use Rattle.gus.specs.declared.Part.{Part}
 use Rattle.gus.specs.Victims.{victimsOf, knotOf}
 use Rattle.gus.specs.Plan.{answerTo}
 use Rattle.invariants.specs.Sound.{Sound}
-use Rattle.invariants.specs.Among.{among-at}
+use Rattle.laws.specs.Among.{among-at}
 use Rattle.invariants.specs.Victims.{victims-on}
 use Rattle.invariants.specs.Replay.{Replay}
 use Rattle.invariants.specs.End.{Small}

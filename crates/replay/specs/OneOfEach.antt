@@ -6,8 +6,8 @@ use Rattle.laws.specs.Circle.{OnCircle, Reaches}
 use Rattle.job.specs.Times.{never}
 use Rattle.gus.specs.View.{View}
 use Rattle.gus.specs.Victims.{circleOf, victimsOf, knotOf}
-use Rattle.invariants.specs.Among.{Among}
-use Rattle.invariants.specs.Rising.{Rising}
+use Rattle.laws.specs.Among.{Among}
+use Rattle.laws.specs.Rising.{Rising}
 use Rattle.invariants.specs.Victims.{victims-on, victims-each, victims-rise}
 
 pub record OneOfEach (v : View) (victims : List ℕ) : Type 0 where

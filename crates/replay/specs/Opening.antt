@@ -15,7 +15,7 @@ use Rattle.accepted.specs.Good.{recordOf, Good}
 use Rattle.gus.specs.State.{jobAt}
 use Rattle.gus.specs.View.{Pay}
 use Rattle.gus.specs.Victims.{sentBack, settled}
-use Rattle.invariants.specs.Among.{Among}
+use Rattle.laws.specs.Among.{Among}
 use Rattle.opening.specs.Start.{jobsFrom, payFrom}
 use Rattle.opening.specs.Sound.{job-is, apart, sound-from}
 use Rattle.replay.specs.Machine.{MachineJob, Machine, fromRecord, numbered, asVictim, withVictims, machineFrom}

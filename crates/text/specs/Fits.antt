@@ -15,7 +15,7 @@ use Rattle.book.specs.Format.{bookOf}
 use Rattle.gus.specs.declared.Part.{Part}
 use Rattle.gus.specs.Victims.{knotOf}
 use Rattle.gus.specs.Plan.{answerTo}
-use Rattle.invariants.specs.Among.{Among}
+use Rattle.laws.specs.Among.{Among}
 use Rattle.invariants.specs.Replay.{Replay, over, then, lasts}
 use Rattle.invariants.specs.Victims.{victims-on}
 use Rattle.opening.specs.Planned.{viewFrom, answerFrom}

@@ -5,14 +5,14 @@ use borrow.Author.Needs.{needs}
 use Rattle.book.proofs.held.holder_at.Statement.{statement}
 use Rattle.book.proofs.held.holder_at.Tie as tie
 
-array-read-result : tie.Need-array-read-result
-array-read-result c = search needs
+shared-slice-read-result : tie.Need-shared-slice-read-result
+shared-slice-read-result c = search needs
 
 returns : tie.Need-returns
 returns c = search needs
 
 returns-2 : tie.Need-returns-2
-returns-2 c = sym (List·getD-eq-default (c .before .args .t1) 0 {n = c .before .args .resource} (search needs))
+returns-2 c = sym (List·getD-eq-default (c .before .before .args .holders .now) 0 {n = c .before .before .args .resource} (search needs))
 
 pub holder-at-spec : {M : Type 1} → statement M
-holder-at-spec = tie.close (tie.spec array-read-result returns returns-2)
+holder-at-spec = tie.close (tie.spec shared-slice-read-result returns returns-2)

@@ -1,8 +1,9 @@
 -- `planner::choice::rolls_back` meets its contract.
-use native.Mathlib.Omega.{arith}
+use mathlib.Core.Path.{sym, _∙_}
 use Prim.Native.Nat.{_+_}
-use Rattle.planner.specs.Choosing.{chosen-already, chosen-never, chosen}
+use native.Mathlib.Omega.{arith}
 use borrow.Author.Needs.{needs}
+use Rattle.planner.specs.Choosing.{chosen-already, chosen-never, chosen}
 use Rattle.planner.proofs.choice.rolls_back.Statement.{statement}
 use Rattle.planner.proofs.choice.rolls_back.Tie as tie
 
@@ -12,40 +13,37 @@ element-copy-out-wide c = search needs
 wide-requires : tie.Need-wide-requires
 wide-requires c κs = search needs
 
-element-copy-out-if1 : tie.Need-element-copy-out-if1
-element-copy-out-if1 c = omega (arith, c .wide .ensures, c .before .before .before .pre .1 .0 .0 .below (c .before .before .before .args .k))
+rolls-requires : tie.Need-rolls-requires
+rolls-requires c κs = omega (arith, c .wide .ensures, c .before .before .before .pre .0 .members-below .below (c .before .before .before .args .k))
 
 returns : tie.Need-returns
-returns c = let a = c .before .before .before .before .before .args in chosen-already _ _ (a .members .now) (a .k) (a .c) _ (c .before .before .wide .ensures) (c .if1 .taken)
+returns c = let a = c .before .before .before .before .before .args in chosen-already _ _ (a .members .now) (a .k) (a .c) _ (c .before .before .wide .ensures) (sym (c .before .rolls .ensures) ∙ c .if1 .taken)
 
-mul-if2 : tie.Need-mul-if2
-mul-if2 c = omega (arith, c .before .before .wide .ensures, c .before .before .before .before .before .pre .1 .0 .0 .below (c .before .before .before .before .before .args .k))
-
-element-copy-out-if2 : tie.Need-element-copy-out-if2
-element-copy-out-if2 c = omega (arith, c .before .before .wide .ensures, c .before .before .before .before .before .pre .1 .0 .0 .below (c .before .before .before .before .before .args .k))
+rollback-of-requires : tie.Need-rollback-of-requires
+rollback-of-requires c κs = omega (arith, c .before .before .wide .ensures, c .before .before .before .before .before .pre .0 .members-below .below (c .before .before .before .before .before .args .k))
 
 returns-2 : tie.Need-returns-2
-returns-2 c = let a = c .before .before .before .before .before .before .before .args in chosen-never _ _ (a .members .now) (a .k) (a .c) _ (c .before .before .before .before .wide .ensures) (c .before .before .if1 .left) (c .if2 .taken)
+returns-2 c = let a = c .before .before .before .before .before .before .before .args in chosen-never _ _ (a .members .now) (a .k) (a .c) _ (c .before .before .before .before .wide .ensures) (sym (c .before .before .before .rolls .ensures) ∙ c .before .before .if1 .left) (sym (c .before .rollback-of .ensures) ∙ c .if2 .taken)
 
 add-wide : tie.Need-add-wide
-add-wide c = omega (arith, c .before .before .before .before .before .before .before .pre .1 .0 .1 .0)
+add-wide c = search needs
 
 element-copy-out-wide-2 : tie.Need-element-copy-out-wide-2
-element-copy-out-wide-2 c = omega (arith, c .before .before .before .before .before .before .before .pre .1 .0 .1 .0)
+element-copy-out-wide-2 c = search needs
 
 wide-requires-2 : tie.Need-wide-requires-2
 wide-requires-2 c κs = search needs
 
 better-undone-requires : tie.Need-better-undone-requires
 better-undone-requires c κs =
-    let s = c .before .before .before .before .before .before .before .before in
-    let b = s .before .pre .1 .0 .0 in
-    (s .before .pre .0, (s .before .pre .1 .0, (omega (arith, c .wide2 .ensures, b .below (s .before .args .k + 1)), s .before .pre .1 .1)))
+    let p = c .before .before .before .before .before .before .before .before .before .pre in
+    (p .0, ((p .1, omega (arith, c .wide2 .ensures, p .0 .members-below .below (c .before .before .before .before .before .before .before .before .before .args .k + 1))), rw (c .before .before .before .before .before .before .wide .ensures) at (sym (c .before .before .before .before .before .rolls .ensures) ∙ c .before .before .before .before .if1 .left)))
 
 returns-3 : tie.Need-returns-3
 returns-3 c =
     let a = c .before .before .before .before .before .before .before .before .before .before .args in
-    chosen _ _ (a .members .now) (a .k) (a .c) _ _ _ (c .before .before .before .before .before .before .before .before .before .before .pre .1 .0 .1 .0) (c .before .before .before .before .before .before .before .wide .ensures) (c .before .wide2 .ensures) (c .before .before .before .before .before .if1 .left) (c .before .before .before .if2 .left) (c .better-undone .ensures)
+    chosen _ _ (a .members .now) (a .k) (a .c) _ _ _ (c .before .before .before .before .before .before .before .before .before .before .pre .1) (c .before .before .before .before .before .before .before .wide .ensures) (c .before .wide2 .ensures) (sym (c .before .before .before .before .before .before .rolls .ensures) ∙ c .before .before .before .before .before .if1 .left)
+    (λ e. c .before .before .before .if2 .left (c .before .before .before .before .rollback-of .ensures ∙ e)) (c .better-undone .ensures)
 
 pub rolls-back-spec : {M : Type 1} → statement M
 rolls-back-spec =
@@ -53,10 +51,9 @@ rolls-back-spec =
     (tie.spec
     element-copy-out-wide
     wide-requires
-    element-copy-out-if1
+    rolls-requires
     returns
-    mul-if2
-    element-copy-out-if2
+    rollback-of-requires
     returns-2
     add-wide
     element-copy-out-wide-2

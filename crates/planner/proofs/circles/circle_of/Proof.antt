@@ -1,27 +1,21 @@
 -- `planner::circles::circle_of` meets its contract: the loop walks on with the lowest member so far and the steps that are left.
-use native.Mathlib.Omega.{arith}
 use borrow.Author.Needs.{needs}
-use Rattle.gus.specs.Waits.{nobody}
-use Rattle.planner.specs.Seen.{waiting}
-use Rattle.laws.specs.Inside.{inside}
+use Rattle.planner.specs.Sheet.{waitsIn}
 use Rattle.planner.specs.Circling.{Circling, circling-begin, circling-next, circling-met, circling-left, circling-spent}
 use Rattle.planner.proofs.circles.circle_of.Statement.{statement}
 use Rattle.planner.proofs.circles.circle_of.Tie as tie
 
 abbrev Inv-loop : tie.InvT-loop
-Inv-loop waits home all low₀ job₀ steps₀ low job steps = Circling (waiting waits) home low job steps
+Inv-loop sheet home low₀ job₀ steps₀ low job steps = Circling (waitsIn sheet) home low job steps
 
 abbrev μ-loop : tie.MeasureT-loop
-μ-loop waits home all low₀ job₀ steps₀ low job steps = steps
+μ-loop sheet home low₀ job₀ steps₀ low job steps = steps
 
-shared-slice-read-job : tie.Need-shared-slice-read-job Inv-loop μ-loop
-shared-slice-read-job c = search needs
-
-cast-job : tie.Need-cast-job Inv-loop μ-loop
-cast-job c = omega (arith, c .shared-slice-known .given (c .before .before .args .home))
+waits-of-requires : tie.Need-waits-of-requires Inv-loop μ-loop
+waits-of-requires c κs = search needs
 
 loop-holds : tie.Need-loop-holds Inv-loop μ-loop
-loop-holds c = circling-begin (c .before .before .pre) (inside (c .before .before .args .waits .now) (c .before .before .args .home) 0 nobody (search needs))
+loop-holds c = circling-begin (c .before .pre) (c .waits-of .ensures)
 
 returns : tie.Need-returns Inv-loop μ-loop
 returns c = circling-left (c .before .before .loop .inv) (c .if1 .taken)
@@ -35,11 +29,8 @@ returns-2 c = circling-met (c .before .before .before .loop .inv) (c .before .be
 lower-requires : tie.Need-lower-requires Inv-loop μ-loop
 lower-requires c κs = search needs
 
-shared-slice-read-job-2 : tie.Need-shared-slice-read-job-2 Inv-loop μ-loop
-shared-slice-read-job-2 c = search needs
-
-cast-job-2 : tie.Need-cast-job-2 Inv-loop μ-loop
-cast-job-2 c = omega (arith, c .shared-slice-known2 .given (c .before .before .before .before .before .loop .job))
+waits-of-requires-2 : tie.Need-waits-of-requires-2 Inv-loop μ-loop
+waits-of-requires-2 c κs = search needs
 
 sub-steps : tie.Need-sub-steps Inv-loop μ-loop
 sub-steps c = search needs
@@ -48,11 +39,7 @@ loop-less : tie.Need-loop-less Inv-loop μ-loop
 loop-less c = search needs
 
 loop-again : tie.Need-loop-again Inv-loop μ-loop
-loop-again c =
-    let l = c .before .before .before .before .before .loop in
-    let a = c .before .before .before .before .before .before .before .before .args in
-    circling-next (l .inv) (c .before .before .before .before .loop-test .taken) (c .before .before .before .if1 .left) (c .before .before .if2 .left) (c .before .lower .ensures)
-    (inside (a .waits .now) (l .job) 0 nobody (search needs))
+loop-again c = circling-next (c .before .before .before .before .before .loop .inv) (c .before .before .before .before .loop-test .taken) (c .before .before .before .if1 .left) (c .before .before .if2 .left) (c .before .lower .ensures) (c .waits-of2 .ensures)
 
 returns-3 : tie.Need-returns-3 Inv-loop μ-loop
 returns-3 c = circling-spent (c .before .loop .inv) (c .loop-test .left)
@@ -63,15 +50,13 @@ circle-of-spec =
     (tie.spec
     Inv-loop
     μ-loop
-    shared-slice-read-job
-    cast-job
+    waits-of-requires
     loop-holds
     returns
     cast-result
     returns-2
     lower-requires
-    shared-slice-read-job-2
-    cast-job-2
+    waits-of-requires-2
     sub-steps
     loop-less
     loop-again

@@ -1,19 +1,20 @@
 -- `planner::circles::circles` meets its contract.
 use Prim.Native.Nat.{_-_}
+use native.Mathlib.Omega.{arith}
 use borrow.Author.Needs.{needs}
-use Rattle.laws.specs.Each.{Doing, begin, next, ended-ix}
+use Rattle.laws.specs.Each.{Doing, begin, next}
 use Rattle.gus.specs.Waits.{nobody}
 use Rattle.gus.specs.Victims.{circleOf}
-use Rattle.planner.specs.Seen.{waiting}
-use Rattle.planner.specs.Circling.{circlesOf}
+use Rattle.planner.specs.Sheet.{waitsIn}
+use Rattle.planner.specs.Circling.{circles-ended}
 use Rattle.planner.proofs.circles.circles.Statement.{statement}
 use Rattle.planner.proofs.circles.circles.Tie as tie
 
 abbrev Inv-loop : tie.InvT-loop
-Inv-loop waits found₀ job₀ found job = Doing (λ i none. circleOf (waiting waits) i) 32 found₀ found job
+Inv-loop sheet n found₀ job₀ found job = Doing (λ i none. circleOf (waitsIn sheet) i) 32 found₀ found job
 
 abbrev μ-loop : tie.MeasureT-loop
-μ-loop waits found₀ job₀ found job = 32 - job
+μ-loop sheet n found₀ job₀ found job = n - job
 
 loop-holds : tie.Need-loop-holds Inv-loop μ-loop
 loop-holds c = begin (search needs)
@@ -31,11 +32,10 @@ loop-less : tie.Need-loop-less Inv-loop μ-loop
 loop-less c = search needs
 
 loop-again : tie.Need-loop-again Inv-loop μ-loop
-loop-again c = next nobody (c .before .before .loop .inv) (c .before .loop-test .taken) (c .circle-of .ensures)
+loop-again c = next nobody (c .before .before .loop .inv) (omega arith) (c .circle-of .ensures)
 
 returns : tie.Need-returns Inv-loop μ-loop
-unfolding circlesOf
-returns c = ended-ix (c .before .loop .inv) (c .loop-test .left)
+returns c = circles-ended (c .before .loop .inv) (λ i h. c .before .before .pre .1 i (omega arith))
 
 pub circles-spec : {M : Type 1} → statement M
 circles-spec =

@@ -18,16 +18,17 @@ worth-of-requires c κs = search needs
 
 plus-requires : tie.Need-plus-requires
 plus-requires c κs =
-    let s = c .before .before .before in
-    let f : SFits w32 (s .before .args .c .gain) = record { sfits = c .struct-told .given .1 .0 .1 } in
-    rw (toZ-ofZ f, toZ-ofZ {w = w64} {z = c .before .worth-of .result} (search needs), c .before .worth-of .ensures) (s .before .pre .0 .1 .1 .gain, s .before .pre .1 .1)
+    let s = c .before .before .before .before in
+    let f : SFits w32 (s .args .c .gain) = record { sfits = c .struct-told .given .1 .0 .1 } in
+    rw (toZ-ofZ f, toZ-ofZ {w = w64} {z = c .before .worth-of .result} (search needs), c .before .worth-of .ensures)
+    (s .pre .0 .small .gain, s .pre .0 .seeing .modest .worth (s .args .job) _)
 
 returns : tie.Need-returns
 unfolding credited
 returns c =
-    let s = c .before .before .before .before in
-    let f : SFits w32 (s .before .args .c .gain) = record { sfits = c .before .struct-told .given .1 .0 .1 } in
+    let f : SFits w32 (c .before .before .before .before .before .args .c .gain) = record { sfits = c .before .struct-told .given .1 .0 .1 } in
     rw (toZ-ofZ {w = w32} {z = c .plus .result} (search needs), c .plus .ensures, toZ-ofZ f, toZ-ofZ {w = w64} {z = c .before .before .worth-of .result} (search needs), c .before .before .worth-of .ensures)
 
 pub credit-spec : {M : Type 1} → statement M
-credit-spec = tie.close (tie.spec add-time add-worth-of worth-of-requires plus-requires returns)
+credit-spec =
+    tie.close (tie.spec add-time add-worth-of worth-of-requires plus-requires returns)

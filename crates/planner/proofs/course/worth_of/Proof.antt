@@ -7,20 +7,20 @@ use borrow.Author.Needs.{needs}
 use Rattle.planner.proofs.course.worth_of.Statement.{statement}
 use Rattle.planner.proofs.course.worth_of.Tie as tie
 
-mul-worth-at : tie.Need-mul-worth-at
-mul-worth-at c = search needs
+end-of-requires : tie.Need-end-of-requires
+end-of-requires c κs = search needs
 
-element-copy-out-worth-at : tie.Need-element-copy-out-worth-at
-element-copy-out-worth-at c = search needs
+pieces-of-requires : tie.Need-pieces-of-requires
+pieces-of-requires c κs = search needs
 
-worth-at-requires : tie.Need-worth-at-requires
-worth-at-requires c κs = search needs
+worth-before-requires : tie.Need-worth-before-requires
+worth-before-requires c κs = search needs
 
 returns : tie.Need-returns
 returns c =
-    let s = c .before .before .before in
-    rw (lt-ltb (s .args .job) 32 (s .pre)) (toZ-ofZ {w = w64} {z = c .worth-at .result} (search needs) ∙ c .worth-at .ensures)
+    rw (lt-ltb (c .before .before .before .before .args .job) 32 (c .before .before .before .before .pre), ← c .before .before .end-of .ensures, ← c .before .pieces-of .ensures)
+    (toZ-ofZ {w = w64} {z = c .worth-before .result} (search needs) ∙ c .worth-before .ensures)
 
 pub worth-of-spec : {M : Type 1} → statement M
 worth-of-spec =
-    tie.close (tie.spec mul-worth-at element-copy-out-worth-at worth-at-requires returns)
+    tie.close (tie.spec end-of-requires pieces-of-requires worth-before-requires returns)

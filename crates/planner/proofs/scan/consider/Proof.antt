@@ -1,49 +1,42 @@
 -- `planner::scan::consider` meets its contract.
-use mathlib.Core.Path.{refl, ap, _∙_}
-use native.Mathlib.Omega.{arith}
-use Rattle.gus.specs.Group.{Group}
-use Rattle.planner.specs.Placed.{zeros-below}
-use Rattle.planner.specs.Relinked.{group-relinked}
-use Rattle.planner.specs.Considering.{considered, passed-over}
+use mathlib.Core.Path.{sym, _∙_}
 use borrow.Author.Needs.{needs}
+use Rattle.planner.specs.Picking.{better-made}
+use Rattle.planner.specs.Considering.{considered, passed-over}
 use Rattle.planner.proofs.scan.consider.Statement.{statement}
 use Rattle.planner.proofs.scan.consider.Tie as tie
 
-element-copy-out-if1 : tie.Need-element-copy-out-if1
-element-copy-out-if1 c = search needs
+is-left-requires : tie.Need-is-left-requires
+is-left-requires c κs = search needs
 
-follow-requires : tie.Need-follow-requires
-follow-requires c κs = (c .before .before .before .before .pre .1 .0, (refl, zeros-below 32 32 (omega arith)))
+score-of-requires : tie.Need-score-of-requires
+score-of-requires c κs = search needs
 
-score-requires : tie.Need-score-requires
-score-requires c κs =
-    let s = c .before .before .before .before .before in
-    let f = c .before .follow .ensures in
-    (s .before .pre .0, (f .below, (f .low, s .before .pre .1 .1)))
+beats-requires : tie.Need-beats-requires
+beats-requires c κs = search needs
 
-cast-better : tie.Need-cast-better
-cast-better c = search needs
+cast-pick : tie.Need-cast-pick
+cast-pick c = search needs
 
-better-requires : tie.Need-better-requires
-better-requires c κs = search needs
+pick-requires : tie.Need-pick-requires
+pick-requires c κs = search needs
 
 returns : tie.Need-returns
 returns c =
-    considered _ _ _ _ _ (c .before .score .result) _ (c .before .before .before .before .before .if1 .taken)
-    ((rw (c .before .before .before .follow .ensures .chain) at (c .before .score .ensures)) ∙ ap (λ (g : Group). g .course) (group-relinked _ _ _ _ _))
-    (c .better .ensures)
+    considered _ _ _ _ _ (sym (c .before .before .before .before .before .is-left .ensures) ∙ c .before .before .before .before .if1 .taken) (c .before .before .before .score-of .ensures)
+    (better-made _ _ _ (c .before .beats .ensures) (c .pick .ensures))
 
 returns-2 : tie.Need-returns-2
-returns-2 c = passed-over _ _ _ _ _ (c .if1 .left)
+returns-2 c = passed-over _ _ _ _ _ (sym (c .before .is-left .ensures) ∙ c .if1 .left)
 
 pub consider-spec : {M : Type 1} → statement M
 consider-spec =
     tie.close
     (tie.spec
-    element-copy-out-if1
-    follow-requires
-    score-requires
-    cast-better
-    better-requires
+    is-left-requires
+    score-of-requires
+    beats-requires
+    cast-pick
+    pick-requires
     returns
     returns-2)

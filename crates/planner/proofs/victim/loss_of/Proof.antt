@@ -11,22 +11,18 @@ use Rattle.gus.specs.Victims.{lossOf}
 use Rattle.planner.proofs.victim.loss_of.Statement.{statement}
 use Rattle.planner.proofs.victim.loss_of.Tie as tie
 
-mul-time : tie.Need-mul-time
-mul-time c = search needs
-
-element-copy-out-time : tie.Need-element-copy-out-time
-element-copy-out-time c = search needs
+run-of-requires : tie.Need-run-of-requires
+run-of-requires c κs = search needs
 
 add-worth-of : tie.Need-add-worth-of
-add-worth-of c = let s = c .before in omega (arith, s .before .pre .0 .run (s .before .args .job))
+add-worth-of c = omega (arith, c .run-of .ensures, c .before .before .pre .seeing .modest .run (c .before .before .args .job))
 
 worth-of-requires : tie.Need-worth-of-requires
 worth-of-requires c κs = search needs
 
 fits : (c : tie.After-worth-of) → SFits w32 (c .worth-of .result)
 fits c =
-    let s = c .before .before in
-    let most : natAbs (c .worth-of .result) ≤ 1000000 = rw (c .worth-of .ensures) (s .before .pre .0 .worth (s .before .args .job) _) in
+    let most : natAbs (c .worth-of .result) ≤ 1000000 = rw (c .worth-of .ensures) (c .before .before .before .pre .seeing .modest .worth (c .before .before .before .args .job) _) in
     fits-abs _ (omega arith)
 
 cast-gain : tie.Need-cast-gain
@@ -34,15 +30,8 @@ cast-gain c = rw (toZ-ofZ {w = w64} {z = c .worth-of .result} (search needs)) (f
 
 returns : tie.Need-returns
 unfolding lossOf
-returns c = rw (toZ-ofZ {w = w64} {z = c .worth-of .result} (search needs), toZ-ofZ (fits c), c .worth-of .ensures)
+returns c = rw (toZ-ofZ {w = w64} {z = c .worth-of .result} (search needs), toZ-ofZ (fits c), c .worth-of .ensures, c .before .run-of .ensures)
 
 pub loss-of-spec : {M : Type 1} → statement M
 loss-of-spec =
-    tie.close
-    (tie.spec
-    mul-time
-    element-copy-out-time
-    add-worth-of
-    worth-of-requires
-    cast-gain
-    returns)
+    tie.close (tie.spec run-of-requires add-worth-of worth-of-requires cast-gain returns)

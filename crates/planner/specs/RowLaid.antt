@@ -1,0 +1,46 @@
+-- What the writers of a row leave that lay it from a book's bytes.
+use mathlib.Core.Path.{_≡_}
+use mathlib.Core.Bool.{true, false}
+use mathlib.Core.List.{List}
+use Prim.Native.Nat.{ℕ, _+_, _*_, _<_, _≤_}
+use native.Mathlib.Omega.{arith}
+use borrow.Author.Tests.{lt-ltb, le-ltb}
+use lib.Dec.{ltb}
+use lib.ListN.{getD}
+use Rattle.job.specs.declared.Held.{Held}
+use Rattle.job.specs.Job.{heldAt}
+use Rattle.cursor.specs.Field.{valueIn}
+use Rattle.opening.specs.Taken.{headIn, jobIn}
+use Rattle.planner.specs.Putting.{put, linked, owned}
+
+-- row i, of one who requests r: it is linked to the holder of r, where a job holds it
+unfoldable pub waitingRow : List ℕ → List ℕ → List ℕ → ℕ → ℕ → List ℕ → List ℕ
+waitingRow s starts holders i r sheet =
+    let w = getD holders r 0 in
+    let x = heldAt (jobIn s (getD starts w 0)) r in
+    elim (ltb r 32) [
+      | true ↦ elim (ltb w 32) [ true ↦ linked i w (x .hold) (x .rollback) sheet | false ↦ sheet ]
+      | false ↦ sheet
+    ]
+
+-- row i, from the record at its start
+unfoldable pub rowLaid : List ℕ → List ℕ → List ℕ → ℕ → List ℕ → List ℕ
+rowLaid s starts holders i sheet =
+    let p = getD starts i 0 in
+    let h = headIn s p in
+    let curve = p + 11 + 5 * h .holds in
+    let n = valueIn s curve 1 in
+    waitingRow s starts holders i (h .request .resource) (owned i (h .run) (h .rollback) (h .rolling) (put 7 i n (put 6 i (curve + 1 + 10 * n) sheet)))
+
+module _ (s starts holders : List ℕ) (i r : ℕ) (sheet : List ℕ) where
+  pub waiting-none : 32 ≤ r → waitingRow s starts holders i r sheet ≡ sheet
+  unfolding waitingRow
+  waiting-none l = rw (le-ltb r 32 l, waitingRow)
+
+  pub waiting-free : r < 32 → 32 ≤ getD holders r 0 → waitingRow s starts holders i r sheet ≡ sheet
+  unfolding waitingRow
+  waiting-free l h = rw (lt-ltb r 32 l, le-ltb (getD holders r 0) 32 h, waitingRow)
+
+  pub waiting-held : {w : ℕ} {x : Held} → r < 32 → w ≡ getD holders r 0 → w < 32 → x ≡ heldAt (jobIn s (getD starts w 0)) r → waitingRow s starts holders i r sheet ≡ linked i (getD holders r 0) (x .hold) (x .rollback) sheet
+  unfolding waitingRow
+  waiting-held l e h q = rw (q, e, lt-ltb r 32 l, lt-ltb (getD holders r 0) 32 (omega arith), waitingRow)

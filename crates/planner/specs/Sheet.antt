@@ -1,0 +1,60 @@
+-- THE SHEET: what a round asks of the jobs, in one array with a row of eight numbers for each job.
+use mathlib.Core.Bool.{Bool, _&&_, cond}
+use mathlib.Core.List.{List}
+use Prim.Native.Nat.{ℕ, _+_, _*_}
+use lib.Dec.{ltb, eqb}
+use lib.IntN.{pos}
+use lib.ListN.{getD}
+use Rattle.curve.specs.Before.{worthBefore}
+use Rattle.gus.specs.Waits.{nobody}
+use Rattle.gus.specs.View.{Pay, View}
+
+-- number k of job i's row; past the last row it is z
+abbrev pub cell : ℕ → List ℕ → ℕ → ℕ → ℕ
+cell k sheet z i = getD sheet (8 * i + k) z
+
+-- run time left and rollback time
+abbrev pub runIn : List ℕ → ℕ → ℕ
+runIn sheet = cell 0 sheet 0
+
+abbrev pub rollbackIn : List ℕ → ℕ → ℕ
+rollbackIn sheet = cell 1 sheet 0
+
+-- how long the job that this one waits for needs what this one requests, running or rolling back
+abbrev pub holdIn : List ℕ → ℕ → ℕ
+holdIn sheet = cell 2 sheet 0
+
+abbrev pub undoIn : List ℕ → ℕ → ℕ
+undoIn sheet = cell 3 sheet 0
+
+-- whom it waits for
+abbrev pub waitsIn : List ℕ → ℕ → ℕ
+waitsIn sheet = cell 4 sheet nobody
+
+-- "mode 1 (0 normal, 1 rollback)"
+abbrev pub rollingIn : List ℕ → ℕ → Bool
+rollingIn sheet i = eqb (cell 5 sheet 0 i) 1
+
+-- where its curve's termination stands in the book, and how many pieces stand before it
+abbrev pub endIn : List ℕ → ℕ → ℕ
+endIn sheet = cell 6 sheet 0
+
+abbrev pub piecesIn : List ℕ → ℕ → ℕ
+piecesIn sheet = cell 7 sheet 0
+
+-- what finishing a job is worth, by its curve in the lent bytes; past the last row nobody finishes
+abbrev pub paid : List ℕ → List ℕ → Pay
+paid bytes sheet i t = cond (ltb i 32) (worthBefore bytes (endIn sheet i) (piecesIn sheet i) t) (pos 0)
+
+-- THE VIEW of the jobs that the lent book and sheet give
+abbrev pub seen : List ℕ → List ℕ → View
+seen bytes sheet = record {
+  left = λ i. ltb 0 (runIn sheet i) && ltb 0 (rollbackIn sheet i);
+  waits = waitsIn sheet;
+  hold = holdIn sheet;
+  undo = undoIn sheet;
+  run = runIn sheet;
+  rollback = rollbackIn sheet;
+  rolling = rollingIn sheet;
+  worth = paid bytes sheet;
+}

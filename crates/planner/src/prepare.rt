@@ -1,0 +1,32 @@
+// The sheet made ready for the first round: the book's jobs, with the victims in rollback.
+ghost use mathlib.Core.Path.{_≡_};
+ghost use lib.ListN.{replicate};
+ghost use Rattle.planner.specs.Standing.{Accepted};
+ghost use Rattle.planner.specs.Preparing.{Prepared};
+use crate::Victims;
+use crate::keep::settle_rows;
+use crate::lay::lay;
+use crate::lay::lay_asks;
+use crate::victim_list::victims;
+use book::Judged;
+
+// Where a circle has no victim, nobody is sent back.
+pub(crate) fn prepare(
+    bytes: &[u8],
+    j: Judged,
+    sheet: &mut [u32; 256],
+    asks: &mut [u8; 32],
+) -> Victims
+    requires { ⌜ Accepted (now bytes) j ⌝ }
+    requires { ⌜ (now sheet ≡ replicate 256 0) × (now asks ≡ replicate 32 255) ⌝ }
+    ensures { λ r. ⌜ Prepared (now (bytes .entry)) (now (sheet .exit)) (now (asks .exit)) r ⌝ }
+{
+    lay(bytes, &j.starts, &j.holders, j.jobs, sheet);
+    lay_asks(bytes, &j.starts, j.jobs, asks);
+    let v = victims(bytes, sheet, j.jobs, j.now);
+    if v.knot < 32 {
+        return v;
+    }
+    settle_rows(v, sheet, asks);
+    v
+}

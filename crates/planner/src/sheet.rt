@@ -1,0 +1,86 @@
+// The sheet: what a round asks of the jobs, in one array with a row of eight numbers for each job. Its columns are known here, where they are
+// read, and to those who write them, lay.rt and keep.rt.
+ghost use mathlib.Core.Path.{_≡_};
+ghost use Prim.Native.Nat.{_<_};
+ghost use Rattle.planner.specs.Sheet.{runIn, rollbackIn, holdIn, undoIn, waitsIn, rollingIn, endIn, piecesIn};
+
+pub(crate) const RUN: usize = 0;
+
+pub(crate) const ROLLBACK: usize = 1;
+
+pub(crate) const HOLD: usize = 2;
+
+pub(crate) const UNDO: usize = 3;
+
+pub(crate) const WAITS: usize = 4;
+
+pub(crate) const MODE: usize = 5;
+
+pub(crate) const END: usize = 6;
+
+pub(crate) const PIECES: usize = 7;
+
+fn number(n: u32) -> usize
+    ensures { λ r. ⌜ r ≡ n ⌝ }
+{
+    n as usize
+}
+
+pub(crate) fn run_of(sheet: &[u32; 256], job: usize) -> u32
+    requires { ⌜ job < 32 ⌝ }
+    ensures { λ r. ⌜ r ≡ runIn (now (sheet .entry)) job ⌝ }
+{
+    sheet[8 * job + RUN]
+}
+
+pub(crate) fn rollback_of(sheet: &[u32; 256], job: usize) -> u32
+    requires { ⌜ job < 32 ⌝ }
+    ensures { λ r. ⌜ r ≡ rollbackIn (now (sheet .entry)) job ⌝ }
+{
+    sheet[8 * job + ROLLBACK]
+}
+
+// How long the job that this one waits for runs until what this one requests is free; rolls back, in the next.
+pub(crate) fn hold_for(sheet: &[u32; 256], job: usize) -> u32
+    requires { ⌜ job < 32 ⌝ }
+    ensures { λ r. ⌜ r ≡ holdIn (now (sheet .entry)) job ⌝ }
+{
+    sheet[8 * job + HOLD]
+}
+
+pub(crate) fn undo_for(sheet: &[u32; 256], job: usize) -> u32
+    requires { ⌜ job < 32 ⌝ }
+    ensures { λ r. ⌜ r ≡ undoIn (now (sheet .entry)) job ⌝ }
+{
+    sheet[8 * job + UNDO]
+}
+
+pub(crate) fn waits_of(sheet: &[u32; 256], job: usize) -> usize
+    requires { ⌜ job < 32 ⌝ }
+    ensures { λ r. ⌜ r ≡ waitsIn (now (sheet .entry)) job ⌝ }
+{
+    let all: &[u32] = sheet;
+    number(all[8 * job + WAITS])
+}
+
+pub(crate) fn rolls(sheet: &[u32; 256], job: usize) -> bool
+    requires { ⌜ job < 32 ⌝ }
+    ensures { λ r. ⌜ r ≡ rollingIn (now (sheet .entry)) job ⌝ }
+{
+    sheet[8 * job + MODE] == 1
+}
+
+// Where its curve's termination stands in the book; how many pieces stand before it, in the next.
+pub(crate) fn end_of(sheet: &[u32; 256], job: usize) -> usize
+    requires { ⌜ job < 32 ⌝ }
+    ensures { λ r. ⌜ r ≡ endIn (now (sheet .entry)) job ⌝ }
+{
+    number(sheet[8 * job + END])
+}
+
+pub(crate) fn pieces_of(sheet: &[u32; 256], job: usize) -> usize
+    requires { ⌜ job < 32 ⌝ }
+    ensures { λ r. ⌜ r ≡ piecesIn (now (sheet .entry)) job ⌝ }
+{
+    number(sheet[8 * job + PIECES])
+}
