@@ -68,6 +68,11 @@ planIn v p = record {
   end = p .moment;
 }
 
+-- an accepted book, as judged, with its victims
+pub record Chosen (s : List ℕ) (j : Judged) (v : Victims) : Type 0 where
+  pub accepted : Accepted s j
+  pub victims : v ≡ listed (viewFrom (bookOf s)) (bookOf s .now)
+
 -- a book without a knot, prepared for its first round
 pub record Cleared (s : List ℕ) (j : Judged) (sheet asks : List ℕ) (v : Victims) : Type 0 where
   pub accepted : Accepted s j

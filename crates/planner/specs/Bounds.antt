@@ -1,15 +1,22 @@
 -- How far times and gains go: each job of a chain adds at most 65,535 milliseconds and a million.
-use mathlib.Core.Bool.{Bool, true, false}
 use Prim.Native.Nat.{ℕ, suc, _+_, _*_, _≤_}
 use native.Mathlib.Omega.{arith}
-use lib.Dec.{eqb}
 use lib.IntN.{ℤ, natAbs}
 use Rattle.laws.specs.Signed.{abs-add}
 use Rattle.gus.specs.declared.Course.{Course}
 use Rattle.gus.specs.View.{View}
-use Rattle.gus.specs.Course.{start, passed, credited, toEnd}
-use Rattle.gus.specs.Group.{toFree}
+use Rattle.gus.specs.Course.{start, passed, credited}
 pub use Rattle.opening.specs.Modest.{Modest}
+
+-- every time of a view fits in 16 bits
+pub record Short (v : View) : Type 0 where
+  pub undo : (x : ℕ) → v .undo x ≤ 65535
+  pub hold : (x : ℕ) → v .hold x ≤ 65535
+  pub rollback : (i : ℕ) → v .rollback i ≤ 65535
+  pub run : (i : ℕ) → v .run i ≤ 65535
+
+pub short : {v : View} → Modest v → Short v
+short m = record { undo = m .undo; hold = m .hold; rollback = m .rollback; run = m .run }
 
 -- a planned moment: what 32 jobs make can still be added to it in 32 bits
 abbrev pub Planned : ℕ → Type 0
@@ -37,21 +44,3 @@ module _ (n k : ℕ) (c : Course) (s : Small k c) (h : n ≤ 65535) where
     time = omega arith;
     gain = omega (arith, w (t + (c .time + n)), abs-add (c .gain) (worth (t + (c .time + n))));
   }
-
-module _ (v : View) (m : Modest v) (t : ℕ) where
-  pub small-to-free : (i x : ℕ) (d : Bool) (k : ℕ) (c : Course) → Small k c → Small (suc k) (toFree v t i x d c)
-  unfolding toFree
-  small-to-free i x true k c s = small-passed (v .undo x) k c s (m .undo x)
-  small-to-free i x false k c s = by (eqb (v .hold x) (v .run i))
-    where
-      by : (b : Bool) → Small (suc k) (elim b [ true ↦ credited (v .worth i) t (v .hold x) c | false ↦ passed (v .hold x) c ])
-      by true = small-credited (v .hold x) k c s (m .hold x) (v .worth i) t (m .worth i)
-      by false = small-passed (v .hold x) k c s (m .hold x)
-
-  pub small-to-end : (i k : ℕ) (c : Course) → Small k c → Small (suc k) (toEnd v t i c)
-  unfolding toEnd
-  small-to-end i k c s = by (v .rolling i)
-    where
-      by : (b : Bool) → Small (suc k) (elim b [ true ↦ passed (v .rollback i) c | false ↦ credited (v .worth i) t (v .run i) c ])
-      by true = small-passed (v .rollback i) k c s (m .rollback i)
-      by false = small-credited (v .run i) k c s (m .run i) (v .worth i) t (m .worth i)

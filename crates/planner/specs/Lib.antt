@@ -2,10 +2,10 @@ pub mod Sheet
 pub mod Places
 pub mod Standing
 pub mod Bounds
+pub mod Circling
 pub mod Asking
 pub mod Onward
 pub mod Picking
-pub mod Circling
 pub mod Offering
 pub mod Listing
 pub mod Settling
@@ -15,6 +15,7 @@ pub mod Turn
 pub mod Reckoning
 pub mod LaidOut
 pub mod Growing
+pub mod Parting
 pub mod Following
 pub mod Considering
 pub mod Limits

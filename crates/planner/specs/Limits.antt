@@ -16,7 +16,8 @@ use Rattle.gus.specs.Course.{start, denser}
 use Rattle.gus.specs.Choice.{Way}
 use Rattle.gus.specs.Group.{toFree, grow, groupOf}
 use Rattle.gus.specs.Round.{better, consider, noBest, bestOf}
-use Rattle.planner.specs.Bounds.{Modest, Small, small-more, small-start, small-to-free, small-to-end}
+use Rattle.planner.specs.Bounds.{Modest, Small, small-more, small-start}
+use Rattle.planner.specs.Turn.{small-to-free, small-to-end}
 
 -- a walk of n steps along the waits finds at most n members, and keeps those that it has
 chain-grows : (waits : ℕ → ℕ) (n j : ℕ) (l : List ℕ) → (length l ≤ length (chainTo waits n j l)) × (length (chainTo waits n j l) ≤ n + length l)

@@ -12,7 +12,6 @@ use Rattle.invariants.specs.Sound.{Sound}
 use Rattle.invariants.specs.End.{Small}
 use Rattle.opening.specs.Start.{jobsFrom}
 use Rattle.opening.specs.Sound.{job-past}
-use Rattle.opening.specs.Sound.{job-past}
 use Rattle.opening.specs.Modest.{modest}
 use Rattle.opening.specs.Opened.{Opened, accepted-opened}
 use Rattle.opening.specs.Planned.{viewFrom, startFrom}

@@ -1,23 +1,23 @@
 -- The loop that reckons a chain to its end: its invariant, begun, carried on and ended.
 use mathlib.Core.Path.{_≡_, refl, sym, _∙_}
-use mathlib.Core.Bool.{Bool, true, false}
+use mathlib.Core.Bool.{Bool, true, false, cond}
 use mathlib.Core.List.{List}
-use Prim.Native.Nat.{ℕ, _+_, _*_, _<_, _≤_}
+use Prim.Native.Nat.{ℕ, _+_, _<_, _≤_}
 use native.Mathlib.Numerals.{add-one}
 use native.Mathlib.Omega.{arith}
 use borrow.Author.Tests.{ltb-true, ltb-false}
 use lib.Dec.{ltb}
-use lib.IntN.{ℤ, natAbs, _+ℤ_}
+use lib.IntN.{ℤ, _+ℤ_}
 use lib.ListN.{getD}
 use Rattle.gus.specs.declared.Course.{Course}
 use Rattle.gus.specs.View.{View}
 use Rattle.gus.specs.Course.{passed, credited, denser}
 use Rattle.gus.specs.Choice.{reckonOne, reckon}
-use Rattle.planner.specs.Bounds.{Small, small-passed, small-credited}
+use Rattle.planner.specs.Bounds.{short, Small, small-passed, small-credited}
 use Rattle.laws.specs.Placed.{Below, chainIn, chain-two, chain-next, chain-last, chain-none}
-use Rattle.planner.specs.Asking.{Seeing, Along}
+use Rattle.planner.specs.Asking.{Seeing, Earning, Along}
 use Rattle.planner.specs.Choosing.{undoneIsDenser}
-use Rattle.planner.specs.Turn.{untilFree, untilEnd, spanAt, earned, turned, turn-free, turn-end, span-short, small-turned}
+use Rattle.planner.specs.Turn.{spanAt, earned, turned, turn-free, turn-end, span-short, small-turned}
 
 -- c is what the members before place k make, and from c the others make what all make from c₀
 pub record Reckoning (v : View) (t : ℕ) (members : List ℕ) (from : ℕ) (c₀ c : Course) (k : ℕ) : Type 0 where
@@ -35,15 +35,15 @@ module _ (v : View) (t : ℕ) (members : List ℕ) where
   unfolding reckonOne
   reckon-run k c h e = rw (e, reckonOne) at (reckon-before k c h)
 
-  reckon-turn : (k i : ℕ) (c : Course) → k < 32 → i ≡ getD members k 0 → reckon v t (chainIn members k) c ≡ reckon v t (chainIn members (k + 1)) (turned v t i (spanAt v members k i) c)
+  reckon-turn : (k i : ℕ) (c : Course) → k < 32 → i ≡ getD members k 0 → reckon v t (chainIn members k) c ≡ reckon v t (chainIn members (k + 1)) (turned v t i (spanAt v members k (v .rolling i)) c)
   unfolding reckon
   reckon-turn k i c h p = by (ltb k 31) refl
     where
-      by : (b : Bool) → ltb k 31 ≡ b → reckon v t (chainIn members k) c ≡ reckon v t (chainIn members (k + 1)) (turned v t i (elim b [ true ↦ untilFree v i (getD members (k + 1) 0) | false ↦ untilEnd v i ]) c)
+      by : (b : Bool) → ltb k 31 ≡ b → reckon v t (chainIn members k) c ≡ reckon v t (chainIn members (k + 1)) (turned v t i (cond b (cond (v .rolling i) (v .undo (getD members (k + 1) 0)) (v .hold (getD members (k + 1) 0))) (cond (v .rolling i) (v .rollback (getD members k 0)) (v .run (getD members k 0)))) c)
       by true e = rw (← turn-free v t i c (getD members (k + 1) 0), p) (reckon-before k c (ltb-true k 31 e))
       by false e =
           let z : k ≡ 31 = omega (arith, ltb-false k 31 e) in
-          rw (← turn-end v t i c, p, z, chain-last, chain-none)
+          rw (← p, ← turn-end v t i c, p, z, chain-last, chain-none)
 
   module _ (from : ℕ) (c₀ : Course) where
     reckoning-begin : from ≤ 32 → Small from c₀ → Reckoning v t members from c₀ c₀ from
@@ -51,14 +51,19 @@ module _ (v : View) (t : ℕ) (members : List ℕ) where
 
     module _ (c : Course) (k : ℕ) (r : Reckoning v t members from c₀ c k) where
       -- the turn of the member at place k, which is job i and takes n
-      module _ (s : Seeing v t) (b : Below 32 members) (i n : ℕ) (h : k < 32) (p : i ≡ getD members k 0) (q : n ≡ spanAt v members k i) where
-        pub earning : Seeing v t × ((i < 32) × ((c .time + n ≤ 32 * 65535) × (natAbs (c .gain) ≤ 31 * 1000000)))
-        earning = (s, (omega (arith, b .below k), (omega (arith, span-short v (s .modest) members k i, r .small .time), omega (arith, r .small .gain))))
+      module _ (s : Seeing v t) (b : Below 32 members) (i n : ℕ) (h : k < 32) (p : i ≡ getD members k 0) (q : n ≡ spanAt v members k (v .rolling i)) where
+        pub earning : Earning v t i (c .time + n) (c .gain)
+        earning = record {
+          seeing = s;
+          job = omega (arith, b .below k);
+          time-small = omega (arith, span-short v (short (s .modest)) members k (v .rolling i), r .small .time);
+          gain-small = omega (arith, r .small .gain);
+        }
 
         pub reckoning-next : (gain other : ℤ) → gain ≡ other → other ≡ earned v t i (c .time + n) (c .gain) → Reckoning v t members from c₀ (record { time = c .time + n; gain = gain }) (k + 1)
         reckoning-next gain other e f = rw (e, f, q) record {
           within = omega arith;
-          small = small-turned v (s .modest) t i (spanAt v members k i) k c (span-short v (s .modest) members k i) (r .small);
+          small = small-turned v (s .modest) t i (spanAt v members k (v .rolling i)) k c (span-short v (short (s .modest)) members k (v .rolling i)) (r .small);
           same = sym (reckon-turn k i c h p) ∙ r .same;
         }
 

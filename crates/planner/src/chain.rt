@@ -1,15 +1,12 @@
 // The chain of a job (VI.2).
-ghost use mathlib.Core.Path.{_≡_};
-ghost use Prim.Native.Nat.{_<_};
-ghost use lib.ListN.{length};
 ghost use Rattle.planner.specs.Sheet.{waitsIn};
-ghost use Rattle.laws.specs.Placed.{Below};
+ghost use Rattle.planner.specs.Asking.{Tracing};
 ghost use Rattle.planner.specs.Following.{Followed};
 use crate::sheet::waits_of;
 
 // Members r .. 32, farthest holder first. The array is the caller's: a chain that came back by value would be copied for each job.
 pub(crate) fn follow(sheet: &[u32; 256], last: usize, members: &mut [u8; 32]) -> usize
-    requires { ⌜ (last < 32) × ((length (now members) ≡ 32) × Below 32 (now members)) ⌝ }
+    requires { ⌜ Tracing last (now members) ⌝ }
     ensures { λ r. ⌜ Followed (waitsIn (now (sheet .entry))) last (now (members .exit)) r ⌝ }
 {
     members[31] = last as u8;

@@ -1,9 +1,9 @@
 // Wait circles (V.1): "A circle of waits is a deadlock".
 ghost use mathlib.Core.Path.{_≡_};
-ghost use Prim.Native.Nat.{ℕ, _<_, _≤_, min};
-ghost use Rattle.gus.specs.Waits.{nobody};
+ghost use Prim.Native.Nat.{_<_, min};
 ghost use Rattle.gus.specs.Victims.{circleOf};
 ghost use Rattle.planner.specs.Sheet.{waitsIn};
+ghost use Rattle.planner.specs.Asking.{Waiting};
 ghost use Rattle.planner.specs.Circling.{circlesOf};
 use crate::sheet::waits_of;
 
@@ -39,7 +39,7 @@ fn circle_of(sheet: &[u32; 256], home: usize) -> u8
 
 // The circle of each job, found once; from the n-th job on nobody waits.
 pub(crate) fn circles(sheet: &[u32; 256], n: usize) -> [u8; 32]
-    requires { ⌜ (n ≤ 32) × ((i : ℕ) → n ≤ i → waitsIn (now sheet) i ≡ nobody) ⌝ }
+    requires { ⌜ Waiting n (waitsIn (now sheet)) ⌝ }
     ensures { λ r. ⌜ r ≡ circlesOf (waitsIn (now (sheet .entry))) ⌝ }
 {
     let mut found = [NOBODY; 32];

@@ -1,16 +1,20 @@
 // Time and utility along a row of jobs (VI.3, VI.5).
 ghost use mathlib.Core.Path.{_≡_};
+ghost use mathlib.Core.List.{[]};
 ghost use Prim.Native.Nat.{_*_, _≤_, _<_};
 ghost use lib.IntN.{natAbs, _+ℤ_};
-ghost use Rattle.gus.specs.Course.{passed, credited, denser, toEnd};
+ghost use Rattle.gus.specs.Course.{passed, credited, denser};
 ghost use Rattle.planner.specs.Sheet.{paid, seen};
 ghost use Rattle.planner.specs.Bounds.{Small};
-ghost use Rattle.planner.specs.Asking.{Stepping};
+ghost use Rattle.planner.specs.Asking.{Spending, Placing};
+ghost use Rattle.planner.specs.Turn.{spanAt, stepped};
 use crate::sheet::end_of;
+use crate::sheet::hold_for;
 use crate::sheet::pieces_of;
 use crate::sheet::rollback_of;
-use crate::sheet::rolls;
 use crate::sheet::run_of;
+use crate::sheet::undo_for;
+use crate::wide;
 use curve::question::worth_before;
 use gus::Course;
 
@@ -50,8 +54,7 @@ pub(crate) fn credit<'a>(
     n: u32,
     c: Course,
 ) -> Course
-    requires { ⌜ Stepping (seen (now bytes) (now sheet)) t job c ⌝ }
-    requires { ⌜ n ≤ 65535 ⌝ }
+    requires { ⌜ Spending (seen (now bytes) (now sheet)) t job n c ⌝ }
     ensures { λ r. ⌜ r ≡ credited (paid (now (bytes .entry)) (now (sheet .entry)) job) t n c ⌝ }
 {
     let time = c.time + n;
@@ -60,23 +63,46 @@ pub(crate) fn credit<'a>(
     Course { time, gain }
 }
 
-// A job to its end in its own mode.
-pub(crate) fn to_end<'a>(
+// How long the member at place k takes in a mode: until what the next one requests is free; the last one to its end. No worth is asked, so
+// no book is lent.
+pub(crate) fn span_at<'a>(sheet: &'a [u32; 256], members: &'a [u8; 32], k: usize, back: bool) -> u32
+    requires { ⌜ Placing (now members) k ⌝ }
+    ensures { λ r. ⌜ r ≡ spanAt (seen [] (now (sheet .entry))) (now (members .entry)) k back ⌝ }
+{
+    if k < 31 {
+        let next = wide(members[k + 1]);
+        if back {
+            return undo_for(sheet, next);
+        }
+        return hold_for(sheet, next);
+    }
+    let last = wide(members[k]);
+    if back {
+        return rollback_of(sheet, last);
+    }
+    run_of(sheet, last)
+}
+
+// A job's part of n in a mode: "A normal run that is all its run time left earns its worth at that moment."
+pub(crate) fn step<'a>(
     bytes: &'a [u8],
     sheet: &'a [u32; 256],
     job: usize,
+    back: bool,
+    n: u32,
     t: u32,
     c: Course,
 ) -> Course
-    requires { ⌜ Stepping (seen (now bytes) (now sheet)) t job c ⌝ }
-    ensures { λ r. ⌜ r ≡ toEnd (seen (now (bytes .entry)) (now (sheet .entry))) t job c ⌝ }
+    requires { ⌜ Spending (seen (now bytes) (now sheet)) t job n c ⌝ }
+    ensures { λ r. ⌜ r ≡ stepped (seen (now (bytes .entry)) (now (sheet .entry))) t job back n c ⌝ }
 {
-    if rolls(sheet, job) {
-        let rest = rollback_of(sheet, job);
-        return pass(c, rest);
+    if back {
+        return pass(c, n);
     }
-    let rest = run_of(sheet, job);
-    credit(bytes, sheet, job, t, rest, c)
+    if n == run_of(sheet, job) {
+        return credit(bytes, sheet, job, t, n, c);
+    }
+    pass(c, n)
 }
 
 // Whether a gives more utility per millisecond than b.

@@ -1,115 +1,37 @@
-// The group of a job (VI.3).
+// The group of a job (VI.3): its chain, walked, and then its parts laid out by the modes.
 ghost use mathlib.Core.Path.{_≡_};
-ghost use mathlib.Core.Bool.{cond};
+ghost use mathlib.Core.List.{[]};
 ghost use Prim.Native.Nat.{_≤_};
 ghost use Rattle.gus.specs.Course.{start};
 ghost use Rattle.gus.specs.Choice.{byDensity};
-ghost use Rattle.gus.specs.Group.{toFree, grow, groupOf};
+ghost use Rattle.gus.specs.Group.{groupOf};
 ghost use Rattle.planner.specs.Sheet.{seen};
-ghost use Rattle.laws.specs.Placed.{chainIn};
-ghost use Rattle.planner.specs.Asking.{Stepping, Freeing, Along};
+ghost use Rattle.planner.specs.Asking.{Stepping, Spanning};
+ghost use Rattle.planner.specs.Turn.{partAt};
 ghost use Rattle.planner.specs.LaidOut.{laidOut};
 use crate::GroupParts;
 use crate::chain::follow;
-use crate::choice::rolls_back;
-use crate::course::credit;
-use crate::course::pass;
-use crate::course::to_end;
-use crate::sheet::hold_for;
-use crate::sheet::rollback_of;
-use crate::sheet::rolls;
-use crate::sheet::run_of;
-use crate::sheet::undo_for;
-use crate::wide;
-use gus::Course;
+use crate::course::span_at;
+use crate::walk::walk;
 use gus::Part;
 
-// The time of a part, by its mode.
-fn time_in(back: bool, backward: u32, forward: u32) -> u16
-    requires { ⌜ (backward ≤ 65535) × (forward ≤ 65535) ⌝ }
-    ensures { λ r. ⌜ r ≡ cond back backward forward ⌝ }
+fn short(n: u32) -> u16
+    requires { ⌜ n ≤ 65535 ⌝ }
+    ensures { λ r. ⌜ r ≡ n ⌝ }
 {
-    if back {
-        backward as u16
-    } else {
-        forward as u16
-    }
+    n as u16
 }
 
-// A job in the mode chosen, until what the next one requests is free: a run of all its run time earns its worth.
-pub(crate) fn to_free<'a>(
-    bytes: &'a [u8],
-    sheet: &'a [u32; 256],
-    job: usize,
-    next: usize,
-    back: bool,
-    t: u32,
-    c: Course,
-) -> Course
-    requires { ⌜ Freeing (seen (now bytes) (now sheet)) t job next c ⌝ }
-    ensures { λ r. ⌜ r ≡ toFree (seen (now (bytes .entry)) (now (sheet .entry))) t job next back c ⌝ }
+// The part of the member at place k in a mode.
+fn part_at<'a>(sheet: &'a [u32; 256], members: &'a [u8; 32], k: usize, back: bool) -> Part
+    requires { ⌜ Spanning (seen [] (now sheet)) (now members) k ⌝ }
+    ensures { λ r. ⌜ r ≡ partAt (seen [] (now (sheet .entry))) (now (members .entry)) k back ⌝ }
 {
-    if back {
-        let until = undo_for(sheet, next);
-        return pass(c, until);
-    }
-    let until = hold_for(sheet, next);
-    if until == run_of(sheet, job) {
-        return credit(bytes, sheet, job, t, until, c);
-    }
-    pass(c, until)
-}
-
-// The group of the chain at places from .. 32.
-fn grow<'a>(
-    bytes: &'a [u8],
-    sheet: &'a [u32; 256],
-    members: &'a [u8; 32],
-    from: usize,
-    t: u32,
-) -> GroupParts
-    requires { ⌜ Along (seen (now bytes) (now sheet)) t (now members) from start ⌝ }
-    ensures { λ r. ⌜ r ≡ laidOut (grow byDensity (seen (now (bytes .entry)) (now (sheet .entry))) t (chainIn (now (members .entry)) from) start) ⌝ }
-{
-    let empty = Part {
-        job: 0,
-        rolling: false,
-        time: 0,
-    };
-    let mut parts = [empty; 32];
-    let mut c = Course { time: 0, gain: 0 };
-    let mut n: usize = 0;
-    let mut k = from;
-    while k < 31 {
-        let number = members[k];
-        let job = wide(number);
-        let next = wide(members[k + 1]);
-        let back = rolls_back(bytes, sheet, members, k, t, c);
-        let time = time_in(back, undo_for(sheet, next), hold_for(sheet, next));
-        parts[n] = Part {
-            job: number,
-            rolling: back,
-            time,
-        };
-        c = to_free(bytes, sheet, job, next, back, t, c);
-        n += 1;
-        k += 1;
-    }
-    let number = members[31];
-    let job = wide(number);
-    let back = rolls(sheet, job);
-    let time = time_in(back, rollback_of(sheet, job), run_of(sheet, job));
-    parts[n] = Part {
-        job: number,
+    let span = span_at(sheet, members, k, back);
+    Part {
+        job: members[k],
         rolling: back,
-        time,
-    };
-    let course = to_end(bytes, sheet, job, t, c);
-    let count = n + 1;
-    GroupParts {
-        parts,
-        count,
-        course,
+        time: short(span),
     }
 }
 
@@ -119,5 +41,25 @@ pub(crate) fn group<'a>(bytes: &'a [u8], sheet: &'a [u32; 256], last: usize, t: 
 {
     let mut members = [0u8; 32];
     let from = follow(sheet, last, &mut members);
-    grow(bytes, sheet, &members, from, t)
+    let mut modes = [false; 32];
+    let course = walk(bytes, sheet, &members, from, t, &mut modes);
+    let empty = Part {
+        job: 0,
+        rolling: false,
+        time: 0,
+    };
+    let mut parts = [empty; 32];
+    let mut count: usize = 0;
+    let mut k = from;
+    while k < 32 {
+        let back = modes[count];
+        parts[count] = part_at(sheet, &members, k, back);
+        count += 1;
+        k += 1;
+    }
+    GroupParts {
+        parts,
+        count,
+        course,
+    }
 }

@@ -1,9 +1,7 @@
 // The sheet of a book's jobs, laid from its bytes: no record and no job is made for it.
 ghost use mathlib.Core.Path.{_≡_};
 ghost use Prim.Native.Nat.{_<_};
-ghost use lib.ListN.{replicate};
-ghost use Rattle.book.specs.Format.{bookOf};
-ghost use Rattle.planner.specs.Standing.{Standing};
+ghost use Rattle.planner.specs.Standing.{SheetBlank, AsksBlank};
 ghost use Rattle.planner.specs.Laid.{LaidRows, LaidAsks};
 ghost use Rattle.planner.specs.RowLaid.{waitingRow, rowLaid};
 ghost use Rattle.planner.specs.RowRight.{RowThere};
@@ -73,7 +71,7 @@ pub(crate) fn lay<'a>(
     n: usize,
     sheet: &mut [u32; 256],
 )
-    requires { ⌜ (Standing (now bytes) (now starts) (now holders) n) × (now sheet ≡ replicate 256 0) ⌝ }
+    requires { ⌜ SheetBlank (now bytes) (now starts) (now holders) n (now sheet) ⌝ }
     ensures { λ _. ⌜ LaidRows (now (bytes .entry)) (now (sheet .exit)) ⌝ }
 {
     let mut i: usize = 0;
@@ -89,7 +87,7 @@ pub(crate) fn lay<'a>(
 
 // What each job asks for; who asks for nothing has 255, and so has a row without a job.
 pub(crate) fn lay_asks<'a>(bytes: &'a [u8], starts: &'a [usize; 33], n: usize, asks: &mut [u8; 32])
-    requires { ⌜ (Standing (now bytes) (now starts) (bookOf (now bytes) .holders) n) × (now asks ≡ replicate 32 255) ⌝ }
+    requires { ⌜ AsksBlank (now bytes) (now starts) n (now asks) ⌝ }
     ensures { λ _. ⌜ LaidAsks (now (bytes .entry)) (now (asks .exit)) ⌝ }
 {
     let mut i: usize = 0;

@@ -14,6 +14,7 @@ pub mod victim_list; // V.1: all victims, and KNOT
 pub mod prepare; // the sheet made ready: the book's jobs, with the victims in rollback
 pub mod choice; // VI.5: the choice of a mode
 pub mod chain; // VI.2: the chain of a job
+pub mod walk; // VI.3: along a chain, member by member
 pub mod group; // VI.3: the group of a job
 pub mod scan; // VI.1: the best group of a round
 pub mod round; // VI.1: one round, the group that it appends

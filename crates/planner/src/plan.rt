@@ -2,10 +2,7 @@
 ghost use mathlib.Core.Path.{_≡_};
 ghost use Rattle.planner.specs.Planned.{refusedPlan, plannedOf};
 ghost use Rattle.planner.specs.Standing.{Accepted};
-ghost use Rattle.book.specs.Format.{bookOf};
-ghost use Rattle.opening.specs.Planned.{viewFrom};
-ghost use Rattle.planner.specs.Listing.{listed};
-ghost use Rattle.planner.specs.Answering.{planIn, firstState, Cleared};
+ghost use Rattle.planner.specs.Answering.{planIn, firstState, Chosen, Cleared};
 use crate::PlanParts;
 use crate::Planned;
 use crate::Victims;
@@ -62,8 +59,7 @@ fn plan_of(v: Victims, p: PlanParts) -> Planned
 // The state of the first round, with the victims in rollback. Opening and settling are a function of their own, and so are the rounds: with
 // more code around it the compiler no longer joins the copies that handing the state on would make, 4 KB of stack each.
 fn first_state(bytes: &[u8], j: Judged, v: Victims) -> State
-    requires { ⌜ Accepted (now bytes) j ⌝ }
-    requires { ⌜ v ≡ listed (viewFrom (bookOf (now bytes))) (bookOf (now bytes) .now) ⌝ }
+    requires { ⌜ Chosen (now bytes) j v ⌝ }
     ensures { λ r. ⌜ r ≡ firstState (now (bytes .entry)) ⌝ }
 {
     let holders = j.holders;

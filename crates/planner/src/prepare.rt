@@ -1,7 +1,5 @@
 // The sheet made ready for the first round: the book's jobs, with the victims in rollback.
-ghost use mathlib.Core.Path.{_≡_};
-ghost use lib.ListN.{replicate};
-ghost use Rattle.planner.specs.Standing.{Accepted};
+ghost use Rattle.planner.specs.Standing.{Unlaid};
 ghost use Rattle.planner.specs.Preparing.{Prepared};
 use crate::Victims;
 use crate::keep::settle_rows;
@@ -17,8 +15,7 @@ pub(crate) fn prepare(
     sheet: &mut [u32; 256],
     asks: &mut [u8; 32],
 ) -> Victims
-    requires { ⌜ Accepted (now bytes) j ⌝ }
-    requires { ⌜ (now sheet ≡ replicate 256 0) × (now asks ≡ replicate 32 255) ⌝ }
+    requires { ⌜ Unlaid (now bytes) j (now sheet) (now asks) ⌝ }
     ensures { λ r. ⌜ Prepared (now (bytes .entry)) (now (sheet .exit)) (now (asks .exit)) r ⌝ }
 {
     lay(bytes, &j.starts, &j.holders, j.jobs, sheet);

@@ -5,49 +5,21 @@ ghost use Prim.Native.Nat.{_<_};
 ghost use lib.Dec.{ltb};
 ghost use Rattle.gus.specs.Course.{start, toEnd};
 ghost use Rattle.gus.specs.Choice.{byDensity};
-ghost use Rattle.gus.specs.Group.{grow, groupOf};
+ghost use Rattle.gus.specs.Group.{groupOf};
 ghost use Rattle.gus.specs.Round.{consider, bestOf};
 ghost use Rattle.planner.specs.Sheet.{runIn, rollbackIn, seen};
-ghost use Rattle.laws.specs.Placed.{chainIn};
-ghost use Rattle.planner.specs.Asking.{Stepping, Along, Scanning};
+ghost use Rattle.planner.specs.Asking.{Stepping, Scanning};
 use crate::best::pick;
 use crate::chain::follow;
-use crate::choice::rolls_back;
 use crate::course::beats;
-use crate::course::to_end;
-use crate::group::to_free;
 use crate::sheet::rollback_of;
 use crate::sheet::rolls;
 use crate::sheet::run_of;
 use crate::sheet::waits_of;
 use crate::victim::loss_of;
-use crate::wide;
+use crate::walk::walk;
 use gus::Best;
 use gus::Course;
-
-// The course of a chain's group, without its parts.
-fn score<'a>(
-    bytes: &'a [u8],
-    sheet: &'a [u32; 256],
-    members: &'a [u8; 32],
-    from: usize,
-    t: u32,
-) -> Course
-    requires { ⌜ Along (seen (now bytes) (now sheet)) t (now members) from start ⌝ }
-    ensures { λ r. ⌜ r ≡ grow byDensity (seen (now (bytes .entry)) (now (sheet .entry))) t (chainIn (now (members .entry)) from) start .course ⌝ }
-{
-    let mut c = Course { time: 0, gain: 0 };
-    let mut k = from;
-    while k < 31 {
-        let job = wide(members[k]);
-        let next = wide(members[k + 1]);
-        let back = rolls_back(bytes, sheet, members, k, t, c);
-        c = to_free(bytes, sheet, job, next, back, t, c);
-        k += 1;
-    }
-    let job = wide(members[31]);
-    to_end(bytes, sheet, job, t, c)
-}
 
 // A job to its end by itself. By running it gives just what it would lose by being sent back.
 fn alone<'a>(bytes: &'a [u8], sheet: &'a [u32; 256], job: usize, t: u32) -> Course
@@ -71,7 +43,8 @@ fn score_of<'a>(bytes: &'a [u8], sheet: &'a [u32; 256], last: usize, t: u32) -> 
     }
     let mut members = [0u8; 32];
     let from = follow(sheet, last, &mut members);
-    score(bytes, sheet, &members, from, t)
+    let mut modes = [false; 32];
+    walk(bytes, sheet, &members, from, t, &mut modes)
 }
 
 fn is_left(sheet: &[u32; 256], job: usize) -> bool

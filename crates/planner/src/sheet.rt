@@ -20,6 +20,9 @@ pub(crate) const END: usize = 6;
 
 pub(crate) const PIECES: usize = 7;
 
+// The rollback time of a job that can't be rolled back.
+pub(crate) const NEVER: u32 = 65535;
+
 fn number(n: u32) -> usize
     ensures { λ r. ⌜ r ≡ n ⌝ }
 {

@@ -1,20 +1,17 @@
 // The victim of a wait circle (V.1): "the job, not marked never, of least loss".
 ghost use mathlib.Core.Path.{_≡_};
-ghost use Prim.Native.Nat.{_<_};
 ghost use Rattle.gus.specs.Course.{start};
 ghost use Rattle.gus.specs.Victims.{lossOf, offer, victimOf};
-ghost use Rattle.planner.specs.Sheet.{waitsIn, seen};
-ghost use Rattle.planner.specs.Asking.{Stepping, Scanning};
-ghost use Rattle.planner.specs.Circling.{circlesOf};
+ghost use Rattle.planner.specs.Sheet.{seen};
+ghost use Rattle.planner.specs.Asking.{Stepping, Seeking, Offered};
 use crate::best::pick;
 use crate::course::beats;
 use crate::course::worth_of;
+use crate::sheet::NEVER;
 use crate::sheet::rollback_of;
 use crate::sheet::run_of;
 use gus::Best;
 use gus::Course;
-
-const NEVER: u32 = 65535;
 
 // "worth at now + run time left, divided by run time left"; no member of a circle is in rollback (R-8).
 pub(crate) fn loss_of<'a>(bytes: &'a [u8], sheet: &'a [u32; 256], job: usize, t: u32) -> Course
@@ -36,8 +33,7 @@ fn offer<'a>(
     t: u32,
     b: Best,
 ) -> Best
-    requires { ⌜ Stepping (seen (now bytes) (now sheet)) t job start ⌝ }
-    requires { ⌜ now circles ≡ circlesOf (waitsIn (now sheet)) ⌝ }
+    requires { ⌜ Offered (seen (now bytes) (now sheet)) t job (now circles) ⌝ }
     ensures { λ r. ⌜ r ≡ offer (seen (now (bytes .entry)) (now (sheet .entry))) t low job b ⌝ }
 {
     if circles[job] == low {
@@ -61,8 +57,7 @@ pub(crate) fn victim_of<'a>(
     n: usize,
     t: u32,
 ) -> Best
-    requires { ⌜ Scanning (seen (now bytes) (now sheet)) n t ⌝ }
-    requires { ⌜ (low < 32) × (now circles ≡ circlesOf (waitsIn (now sheet))) ⌝ }
+    requires { ⌜ Seeking (seen (now bytes) (now sheet)) n t (now circles) low ⌝ }
     ensures { λ r. ⌜ r ≡ victimOf (seen (now (bytes .entry)) (now (sheet .entry))) t low ⌝ }
 {
     let none = Course { time: 0, gain: 0 };

@@ -1,9 +1,8 @@
 // All victims, "listed by the lowest member of their circle", and KNOT.
 ghost use mathlib.Core.Path.{_≡_};
 ghost use Prim.Native.Nat.{_<_};
-ghost use Rattle.planner.specs.Sheet.{waitsIn, seen};
-ghost use Rattle.planner.specs.Asking.{Scanning};
-ghost use Rattle.planner.specs.Circling.{circlesOf};
+ghost use Rattle.planner.specs.Sheet.{seen};
+ghost use Rattle.planner.specs.Asking.{Scanning, Circled};
 ghost use Rattle.planner.specs.Listing.{knotAfter, noted, listed};
 use crate::Victims;
 use crate::circles::NOBODY;
@@ -42,8 +41,7 @@ fn list_victims<'a>(
     n: usize,
     t: u32,
 ) -> Victims
-    requires { ⌜ Scanning (seen (now bytes) (now sheet)) n t ⌝ }
-    requires { ⌜ now circles ≡ circlesOf (waitsIn (now sheet)) ⌝ }
+    requires { ⌜ Circled (seen (now bytes) (now sheet)) n t (now circles) ⌝ }
     ensures { λ r. ⌜ r ≡ listed (seen (now (bytes .entry)) (now (sheet .entry))) t ⌝ }
 {
     let mut v = Victims {

@@ -21,7 +21,7 @@ waits-of-requires : tie.Need-waits-of-requires Inv-loop μ-loop
 waits-of-requires c κs = search needs
 
 loop-holds : tie.Need-loop-holds Inv-loop μ-loop
-loop-holds c = let p = c .before .pre in following-begin (p .1 .0) (p .1 .1) (p .0) (c .waits-of .ensures)
+loop-holds c = let p = c .before .pre in following-begin (p .long) (p .below) (p .job) (c .waits-of .ensures)
 
 returns : tie.Need-returns Inv-loop μ-loop
 returns c = following-stopped (c .before .before .loop .inv) (c .if1 .taken)

@@ -23,7 +23,7 @@ plus-requires : tie.Need-plus-requires
 plus-requires c κs =
     let s = c .before .before .before .before in
     rw (toZ-ofZ (s .fits .gain), toZ-ofZ {w = w64} {z = c .worth-of .result} (search needs), c .worth-of .ensures)
-    (s .pre .1 .1 .1, s .pre .0 .modest .worth (s .args .job) _)
+    (s .pre .gain-small, s .pre .seeing .modest .worth (s .args .job) _)
 
 returns-2 : tie.Need-returns-2
 unfolding earned

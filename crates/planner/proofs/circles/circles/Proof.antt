@@ -35,7 +35,7 @@ loop-again : tie.Need-loop-again Inv-loop μ-loop
 loop-again c = next nobody (c .before .before .loop .inv) (omega arith) (c .circle-of .ensures)
 
 returns : tie.Need-returns Inv-loop μ-loop
-returns c = circles-ended (c .before .loop .inv) (λ i h. c .before .before .pre .1 i (omega arith))
+returns c = circles-ended (c .before .loop .inv) (λ i h. c .before .before .pre .others i (omega arith))
 
 pub circles-spec : {M : Type 1} → statement M
 circles-spec =

@@ -21,7 +21,7 @@ plus-requires c κs =
     let s = c .before .before .before .before in
     let f : SFits w32 (s .args .c .gain) = record { sfits = c .struct-told .given .1 .0 .1 } in
     rw (toZ-ofZ f, toZ-ofZ {w = w64} {z = c .before .worth-of .result} (search needs), c .before .worth-of .ensures)
-    (s .pre .0 .small .gain, s .pre .0 .seeing .modest .worth (s .args .job) _)
+    (s .pre .step .small .gain, s .pre .step .seeing .modest .worth (s .args .job) _)
 
 returns : tie.Need-returns
 unfolding credited

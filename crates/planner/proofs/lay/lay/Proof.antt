@@ -15,12 +15,12 @@ abbrev μ-loop : tie.MeasureT-loop
 μ-loop bytes starts holders n sheet₀ i₀ sheet i = 32 - i
 
 loop-holds : tie.Need-loop-holds Inv-loop μ-loop
-loop-holds c = laying-begin _ (c .before .pre .1)
+loop-holds c = laying-begin _ (c .before .pre .blank)
 
 lay-row-requires : tie.Need-lay-row-requires Inv-loop μ-loop
 lay-row-requires c κs =
     let x = c .before .before .before .before in
-    let st = x .before .pre .0 in
+    let st = x .before .pre .standing in
     row-there st (size-small _ (st .accepted) (λ i. x .shared-slice-known .given i .fits)) (c .before .if1 .taken)
 
 put-requires : tie.Need-put-requires Inv-loop μ-loop
@@ -34,7 +34,7 @@ loop-less c = search needs
 
 loop-again : tie.Need-loop-again Inv-loop μ-loop
 loop-again c =
-    let st = c .before .before .before .before .pre .0 in
+    let st = c .before .before .before .before .pre .standing in
     ⊎-elim
     (λ w. laying-job st (c .before .before .loop .inv) (w .0 .taken) (w .3 ∙ w .2 .ensures))
     (λ w. laying-none st (c .before .before .loop .inv) (c .before .loop-test .taken) (w .0 .left) (w .3 ∙ w .2 .ensures))

@@ -6,7 +6,7 @@ use Rattle.planner.proofs.plan.plan_accepted.Statement.{statement}
 use Rattle.planner.proofs.plan.plan_accepted.Tie as tie
 
 prepare-requires : tie.Need-prepare-requires
-prepare-requires c κs = (c .before .before .before .pre, (refl, refl))
+prepare-requires c κs = record { accepted = c .before .before .before .pre; sheet-blank = refl; asks-blank = refl }
 
 cast-refused-plan : tie.Need-cast-refused-plan
 cast-refused-plan c = search needs

@@ -4,7 +4,7 @@ use Rattle.planner.proofs.plan.plan_rounds.Statement.{statement}
 use Rattle.planner.proofs.plan.plan_rounds.Tie as tie
 
 first-state-requires : tie.Need-first-state-requires
-first-state-requires c κs = let y = c .before .pre in (y .accepted, y .prepared .victims)
+first-state-requires c κs = let y = c .before .pre in record { accepted = y .accepted; victims = y .prepared .victims }
 
 rounds-requires : tie.Need-rounds-requires
 rounds-requires c κs =

@@ -19,14 +19,14 @@ returns : tie.Need-returns
 returns c = group-alone _ _ _ (c .before .before .before .before .pre .job) (c .before .before .waits-of .ensures) (c .before .if1 .taken) (c .alone .ensures)
 
 follow-requires : tie.Need-follow-requires
-follow-requires c κs = (c .before .before .before .before .pre .job, (refl, zeros-below 32 32 (omega arith)))
+follow-requires c κs = record { job = c .before .before .before .before .pre .job; long = refl; below = zeros-below 32 32 (omega arith) }
 
-score-requires : tie.Need-score-requires
-score-requires c κs = chained (c .before .before .before .before .before .before .pre) (c .before .follow .ensures)
+walk-requires : tie.Need-walk-requires
+walk-requires c κs = record { along = chained (c .before .before .before .before .before .before .before .pre) (c .before .before .follow .ensures); idle = refl }
 
 returns-2 : tie.Need-returns-2
 unfolding groupOf
-returns-2 c = rw (c .before .before .follow .ensures .chain) at (c .score .ensures)
+returns-2 c = rw (c .before .before .before .follow .ensures .chain) at (c .walk .ensures .0)
 
 pub score-of-spec : {M : Type 1} → statement M
 score-of-spec =
@@ -36,5 +36,5 @@ score-of-spec =
     alone-requires
     returns
     follow-requires
-    score-requires
+    walk-requires
     returns-2)

@@ -17,7 +17,7 @@ rollback-of-requires : tie.Need-rollback-of-requires
 rollback-of-requires c κs = search needs
 
 circle : (s : tie.After-shared-slice-known) → getD (s .before .args .circles .now) (s .before .args .job) 0 ≡ circleOf (waitsIn (s .before .args .sheet .now)) (s .before .args .job)
-circle s = circle-at _ _ (s .before .pre .1) (s .before .pre .0 .job)
+circle s = circle-at _ _ (s .before .pre .circles-are) (s .before .pre .step .job)
 
 returns : tie.Need-returns
 returns c = offer-never _ _ _ _ _ _ (circle (c .before .before .before .before)) (c .before .before .if1 .taken) (sym (c .before .rollback-of .ensures) ∙ c .if2 .taken)

@@ -20,7 +20,7 @@ loop-holds : tie.Need-loop-holds Inv-loop μ-loop
 loop-holds c = count-begin
 
 offer-requires : tie.Need-offer-requires Inv-loop μ-loop
-offer-requires c κs = let p = c .before .before .before .pre in (scanned (p .0) (c .loop-test .taken), p .1 .1)
+offer-requires c κs = let p = c .before .before .before .pre in record { step = scanned (p .circled .scanning) (c .loop-test .taken); circles-are = p .circled .circles-are }
 
 add-job : tie.Need-add-job Inv-loop μ-loop
 add-job c = search needs
@@ -32,7 +32,7 @@ loop-again : tie.Need-loop-again Inv-loop μ-loop
 loop-again c = count-next (c .before .before .loop .inv) (c .before .loop-test .taken) (c .offer .ensures)
 
 returns : tie.Need-returns Inv-loop μ-loop
-returns c = let p = c .before .before .before .pre in count-ended (c .before .loop .inv) (c .loop-test .left) ∙ victim-among _ _ _ (p .1 .0) (p .0 .beyond)
+returns c = let p = c .before .before .before .pre in count-ended (c .before .loop .inv) (c .loop-test .left) ∙ victim-among _ _ _ (p .lowest) (p .circled .scanning .beyond)
 
 pub victim-of-spec : {M : Type 1} → statement M
 victim-of-spec =

@@ -27,7 +27,7 @@ element-copy-out-if1 : tie.Need-element-copy-out-if1 Inv-loop μ-loop
 element-copy-out-if1 c = search needs
 
 victim-of-requires : tie.Need-victim-of-requires Inv-loop μ-loop
-victim-of-requires c κs = let p = c .before .before .before .before .before .pre in (p .0, (omega arith, p .1))
+victim-of-requires c κs = record { circled = c .before .before .before .before .before .pre; lowest = omega arith }
 
 note-requires : tie.Need-note-requires Inv-loop μ-loop
 note-requires c κs = let l = c .before .before .before .before .loop in (listed-room _ _ (l .job) (omega arith) (l .inv .1), rw (c .victim-of .ensures) (victim-below _ _ _))
@@ -42,7 +42,7 @@ loop-again : tie.Need-loop-again Inv-loop μ-loop
 loop-again c =
     let l = c .before .before .before .loop in
     let h : l .job < 32 = omega arith in
-    let circle = circle-at _ _ (c .before .before .before .before .before .pre .1) h in (
+    let circle = circle-at _ _ (c .before .before .before .before .before .pre .circles-are) h in (
       omega arith,
       ⊎-elim
           (λ w. listed-more _ _ _ h (l .inv .1) (sym circle ∙ w .0 .taken) (w .1 .ensures) (w .3 ∙ w .2 .ensures))
@@ -53,7 +53,7 @@ loop-again c =
 returns : tie.Need-returns Inv-loop μ-loop
 returns c =
     let e : c .before .loop .job ≡ c .before .before .before .args .n = omega arith in
-    (rw e at (c .before .loop .inv .1)) ∙ listed-among _ _ (c .before .before .before .pre .0 .beyond)
+    (rw e at (c .before .loop .inv .1)) ∙ listed-among _ _ (c .before .before .before .pre .scanning .beyond)
 
 pub list-victims-spec : {M : Type 1} → statement M
 list-victims-spec =
