@@ -66,14 +66,14 @@ add-i : tie.Need-add-i Inv-loop μ-loop
 add-i c = search needs
 
 -- the two courses where the loop begins: the job runs, or it rolls back
-ran : (c : tie.After-struct-told2 Inv-loop μ-loop) → record { time = c .before .before .before .before .before .before .before .before .before .before .before .before .before .args .c .time + c .before .before .before .before .before .before .before .hold-for .result; gain = toZ w32 (ofZ w32 (c .before .before .before .plus .result)) } ≡ run (seen (c .before .before .before .before .before .before .before .before .before .before .before .before .before .args .bytes .now) (c .before .before .before .before .before .before .before .before .before .before .before .before .before .args .sheet .now)) (c .before .before .before .before .before .before .before .before .before .before .before .before .before .args .t) (c .before .before .before .before .before .before .before .before .before .before .before .before .before .args .members .now) (c .before .before .before .before .before .before .before .before .before .before .before .before .before .args .k) (c .before .before .before .before .before .before .before .before .before .before .before .before .before .args .c) (c .before .before .before .before .before .before .before .before .before .before .before .before .before .pre .along) (c .before .before .before .before .before .before .before .before .before .before .before .before .before .pre .more)
+ran : (c : tie.After-struct-told2 Inv-loop μ-loop) → (let s = c .before .before .before .before .before .before .before .before .before .before .before .before .before in record { time = s .args .c .time + c .before .before .before .before .before .before .before .hold-for .result; gain = toZ w32 (ofZ w32 (c .before .before .before .plus .result)) } ≡ run (seen (s .args .bytes .now) (s .args .sheet .now)) (s .args .t) (s .args .members .now) (s .args .k) (s .args .c) (s .pre .along) (s .pre .more))
 ran c =
     let s = c .before .before .before .before .before .before .before .before .before .before .before .before .before in
     let f : SFits w32 (s .args .c .gain) = record { sfits = c .before .before .before .before .struct-told .given .1 .0 .1 } in
     run-first _ _ _ _ _ (s .pre .along) (s .pre .more) _ _ _ _ (c .before .before .before .before .before .before .before .before .before .before .wide .ensures) (c .before .before .before .before .before .before .before .before .wide2 .ensures) (c .before .before .before .before .before .before .before .hold-for .ensures)
     (rw (toZ-ofZ {w = w32} {z = c .before .before .before .plus .result} (search needs), c .before .before .before .plus .ensures, toZ-ofZ f, toZ-ofZ {w = w64} {z = c .before .before .before .before .before .worth-of .result} (search needs), c .before .before .before .before .before .worth-of .ensures))
 
-undid : (c : tie.After-struct-told2 Inv-loop μ-loop) → record { time = c .before .before .before .before .before .before .before .before .before .before .before .before .before .args .c .time + c .before .before .undo-for .result; gain = toZ w32 (ofZ w32 (c .before .before .before .before .before .before .before .before .before .before .before .before .before .args .c .gain)) } ≡ passed (undoIn (c .before .before .before .before .before .before .before .before .before .before .before .before .before .args .sheet .now) (getD (c .before .before .before .before .before .before .before .before .before .before .before .before .before .args .members .now) (c .before .before .before .before .before .before .before .before .before .before .before .before .before .args .k + 1) 0)) (c .before .before .before .before .before .before .before .before .before .before .before .before .before .args .c)
+undid : (c : tie.After-struct-told2 Inv-loop μ-loop) → (let s = c .before .before .before .before .before .before .before .before .before .before .before .before .before in record { time = s .args .c .time + c .before .before .undo-for .result; gain = toZ w32 (ofZ w32 (s .args .c .gain)) } ≡ passed (undoIn (s .args .sheet .now) (getD (s .args .members .now) (s .args .k + 1) 0)) (s .args .c))
 undid c =
     let s = c .before .before .before .before .before .before .before .before .before .before .before .before .before in
     let f : SFits w32 (s .args .c .gain) = record { sfits = c .struct-told2 .given .1 .0 .1 } in
@@ -95,13 +95,13 @@ span-at-requires : tie.Need-span-at-requires Inv-loop μ-loop
 span-at-requires c κs = record { members-below = c .before .before .before .before .before .before .before .before .before .before .before .before .before .before .before .before .before .before .pre .along .members-below; place = c .before .before .before .loop-test .taken }
 
 -- what each course may rely on at a turn
-normal-earns : (c : tie.After-span-at Inv-loop μ-loop) → Earning (seen (c .before .before .before .before .before .before .before .before .before .before .before .before .before .before .before .before .before .before .before .args .bytes .now) (c .before .before .before .before .before .before .before .before .before .before .before .before .before .before .before .before .before .before .before .args .sheet .now)) (c .before .before .before .before .before .before .before .before .before .before .before .before .before .before .before .before .before .before .before .args .t) (c .before .before .wide3 .result) (c .before .before .before .before .before .loop .time + c .span-at .result) (toZ w32 (c .before .before .before .before .before .loop .gain))
+normal-earns : (c : tie.After-span-at Inv-loop μ-loop) → (let s = c .before .before .before .before .before .before .before .before .before .before .before .before .before .before .before .before .before .before .before in Earning (seen (s .args .bytes .now) (s .args .sheet .now)) (s .args .t) (c .before .before .wide3 .result) (c .before .before .before .before .before .loop .time + c .span-at .result) (toZ w32 (c .before .before .before .before .before .loop .gain)))
 normal-earns c =
     let s = c .before .before .before .before .before .before .before .before .before .before .before .before .before .before .before .before .before .before .before in
     let l = c .before .before .before .before .before .loop in
     earning _ _ _ _ _ _ (l .i) (l .inv .0) (s .pre .along .seeing) (s .pre .along .members-below) _ _ (c .before .before .before .before .loop-test .taken) (c .before .before .wide3 .ensures) (rw (c .before .rolls .ensures) at (c .span-at .ensures))
 
-undone-earns : (c : tie.After-span-at Inv-loop μ-loop) → Earning (seen (c .before .before .before .before .before .before .before .before .before .before .before .before .before .before .before .before .before .before .before .args .bytes .now) (c .before .before .before .before .before .before .before .before .before .before .before .before .before .before .before .before .before .before .before .args .sheet .now)) (c .before .before .before .before .before .before .before .before .before .before .before .before .before .before .before .before .before .before .before .args .t) (c .before .before .wide3 .result) (c .before .before .before .before .before .loop .undone-time + c .span-at .result) (toZ w32 (c .before .before .before .before .before .loop .undone-gain))
+undone-earns : (c : tie.After-span-at Inv-loop μ-loop) → (let s = c .before .before .before .before .before .before .before .before .before .before .before .before .before .before .before .before .before .before .before in Earning (seen (s .args .bytes .now) (s .args .sheet .now)) (s .args .t) (c .before .before .wide3 .result) (c .before .before .before .before .before .loop .undone-time + c .span-at .result) (toZ w32 (c .before .before .before .before .before .loop .undone-gain)))
 undone-earns c =
     let s = c .before .before .before .before .before .before .before .before .before .before .before .before .before .before .before .before .before .before .before in
     let l = c .before .before .before .before .before .loop in
