@@ -9,6 +9,7 @@ ghost use Rattle.gus.specs.Group.{groupOf};
 ghost use Rattle.gus.specs.Round.{consider, bestOf};
 ghost use Rattle.planner.specs.Sheet.{runIn, rollbackIn, seen};
 ghost use Rattle.planner.specs.Asking.{Stepping, Scanning};
+use crate::best::no_best;
 use crate::best::pick;
 use crate::chain::follow;
 use crate::course::beats;
@@ -76,12 +77,7 @@ pub(crate) fn scan<'a>(bytes: &'a [u8], sheet: &'a [u32; 256], n: usize, t: u32)
     requires { ⌜ Scanning (seen (now bytes) (now sheet)) n t ⌝ }
     ensures { λ r. ⌜ r ≡ bestOf byDensity (seen (now (bytes .entry)) (now (sheet .entry))) t ⌝ }
 {
-    let none = Course { time: 0, gain: 0 };
-    let mut b = Best {
-        some: false,
-        last: 0,
-        course: none,
-    };
+    let mut b = no_best();
     let mut job: usize = 0;
     while job < n {
         b = consider(bytes, sheet, job, t, b);

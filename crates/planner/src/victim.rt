@@ -4,6 +4,7 @@ ghost use Rattle.gus.specs.Course.{start};
 ghost use Rattle.gus.specs.Victims.{lossOf, offer, victimOf};
 ghost use Rattle.planner.specs.Sheet.{seen};
 ghost use Rattle.planner.specs.Asking.{Stepping, Seeking, Offered};
+use crate::best::no_best;
 use crate::best::pick;
 use crate::course::beats;
 use crate::course::worth_of;
@@ -60,12 +61,7 @@ pub(crate) fn victim_of<'a>(
     requires { ⌜ Seeking (seen (now bytes) (now sheet)) n t (now circles) low ⌝ }
     ensures { λ r. ⌜ r ≡ victimOf (seen (now (bytes .entry)) (now (sheet .entry))) t low ⌝ }
 {
-    let none = Course { time: 0, gain: 0 };
-    let mut b = Best {
-        some: false,
-        last: 0,
-        course: none,
-    };
+    let mut b = no_best();
     let mut job: usize = 0;
     while job < n {
         b = offer(bytes, sheet, circles, low, job, t, b);

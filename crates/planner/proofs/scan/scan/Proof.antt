@@ -17,11 +17,14 @@ Inv-loop bytes sheet n t b₀ job₀ b job = Counting (consider byDensity (seen 
 abbrev μ-loop : tie.MeasureT-loop
 μ-loop bytes sheet n t b₀ job₀ b job = n - job
 
+no-best-requires : tie.Need-no-best-requires Inv-loop μ-loop
+no-best-requires c κs = search needs
+
 loop-holds : tie.Need-loop-holds Inv-loop μ-loop
 loop-holds c = count-begin
 
 consider-requires : tie.Need-consider-requires Inv-loop μ-loop
-consider-requires c κs = scanned (c .before .before .before .pre) (c .loop-test .taken)
+consider-requires c κs = scanned (c .before .before .before .before .pre) (c .loop-test .taken)
 
 add-job : tie.Need-add-job Inv-loop μ-loop
 add-job c = search needs
@@ -33,7 +36,7 @@ loop-again : tie.Need-loop-again Inv-loop μ-loop
 loop-again c = count-next (c .before .before .loop .inv) (c .before .loop-test .taken) (c .consider .ensures)
 
 returns : tie.Need-returns Inv-loop μ-loop
-returns c = count-ended (c .before .loop .inv) (c .loop-test .left) ∙ best-among _ _ _ (c .before .before .before .pre .beyond)
+returns c = (rw (c .before .before .no-best .ensures) at (count-ended (c .before .loop .inv) (c .loop-test .left))) ∙ best-among _ _ _ (c .before .before .before .before .pre .beyond)
 
 pub scan-spec : {M : Type 1} → statement M
 scan-spec =
@@ -41,6 +44,7 @@ scan-spec =
     (tie.spec
     Inv-loop
     μ-loop
+    no-best-requires
     loop-holds
     consider-requires
     add-job

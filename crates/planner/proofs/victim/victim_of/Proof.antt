@@ -16,11 +16,14 @@ Inv-loop bytes sheet circles low n t b₀ job₀ b job = Counting (offer (seen b
 abbrev μ-loop : tie.MeasureT-loop
 μ-loop bytes sheet circles low n t b₀ job₀ b job = n - job
 
+no-best-requires : tie.Need-no-best-requires Inv-loop μ-loop
+no-best-requires c κs = search needs
+
 loop-holds : tie.Need-loop-holds Inv-loop μ-loop
 loop-holds c = count-begin
 
 offer-requires : tie.Need-offer-requires Inv-loop μ-loop
-offer-requires c κs = let p = c .before .before .before .pre in record { step = scanned (p .circled .scanning) (c .loop-test .taken); circles-are = p .circled .circles-are }
+offer-requires c κs = let p = c .before .before .before .before .pre in record { step = scanned (p .circled .scanning) (c .loop-test .taken); circles-are = p .circled .circles-are }
 
 add-job : tie.Need-add-job Inv-loop μ-loop
 add-job c = search needs
@@ -32,7 +35,7 @@ loop-again : tie.Need-loop-again Inv-loop μ-loop
 loop-again c = count-next (c .before .before .loop .inv) (c .before .loop-test .taken) (c .offer .ensures)
 
 returns : tie.Need-returns Inv-loop μ-loop
-returns c = let p = c .before .before .before .pre in count-ended (c .before .loop .inv) (c .loop-test .left) ∙ victim-among _ _ _ (p .lowest) (p .circled .scanning .beyond)
+returns c = let p = c .before .before .before .before .pre in (rw (c .before .before .no-best .ensures) at (count-ended (c .before .loop .inv) (c .loop-test .left))) ∙ victim-among _ _ _ (p .lowest) (p .circled .scanning .beyond)
 
 pub victim-of-spec : {M : Type 1} → statement M
 victim-of-spec =
@@ -40,6 +43,7 @@ victim-of-spec =
     (tie.spec
     Inv-loop
     μ-loop
+    no-best-requires
     loop-holds
     offer-requires
     add-job
