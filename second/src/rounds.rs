@@ -102,13 +102,20 @@ pub fn group(jobs: &[Job], moment: i64, last: usize) -> Option<Group> {
             time,
         });
         group.time += time;
-        // "A normal run that is all its run time left earns its worth at that
-        // moment." That holds for the last job always.
-        if !rollback && time == job.run {
-            group.utility += worth(&job.curve, moment + group.time);
-        }
+        group.utility += earned(job, rollback, time, moment + group.time);
     }
     Some(group)
+}
+
+/// What a part that ends at `end` earns, in a group and, since R-3 of 02, in the
+/// choice of a mode: "A normal run that is all its run time left earns its worth
+/// at that moment." That holds for the last job of a chain always.
+fn earned(job: &Job, rollback: bool, time: i64, end: i64) -> i64 {
+    if !rollback && time == job.run {
+        worth(&job.curve, end)
+    } else {
+        0
+    }
 }
 
 /// How long the job at a place in a chain runs in a mode: before the last, its
@@ -159,9 +166,10 @@ fn rolls_back(jobs: &[Job], chain: &[usize], at: usize, moment: i64, so_far: &Gr
 /// One course of VI.5 to the end of the chain, as utility and time: the job at
 /// `at` in the mode given, later jobs normal unless in rollback. It starts
 /// from the time and utility of the group so far (line 31 read as 01 does).
-/// Each normal job reckoned is credited its worth at its moment, also where
-/// its run only frees a resource (lines 10, 18 and 20). The loop runs over the
-/// jobs before the last and the last alike: `time_of` knows the difference.
+/// Where lines 10, 18 and 20 credit every normal job, R-3 of 02 has: "the choice
+/// credits a job before the last only where its hold is all its run time left."
+/// The loop runs over the jobs before the last and the last alike: `time_of` and
+/// `earned` know the difference.
 fn course(
     jobs: &[Job],
     chain: &[usize],
@@ -179,10 +187,9 @@ fn course(
         } else {
             job.in_rollback
         };
-        time += time_of(jobs, chain, later, back);
-        if !back {
-            utility += worth(&job.curve, moment + time);
-        }
+        let span = time_of(jobs, chain, later, back);
+        time += span;
+        utility += earned(job, back, span, moment + time);
     }
     (utility, time)
 }

@@ -28,7 +28,7 @@ fn the_twelve() {
     expect(&case(3), "0 N 10", 0);
     expect_nothing(&case(4));
     expect(&case(5), "0 A 2", 0);
-    expect(&case(6), "0 N 6", 0);
+    expect(&case(6), "0 A 1", 0);
     expect(&case(7), "0 N 6", 0);
     expect(&case(8), "0 N 8", 0);
     expect(&case(9), "1 A 3", 0);

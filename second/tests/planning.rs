@@ -100,23 +100,37 @@ fn the_choice_starts_from_the_group_so_far() {
     // of job 0: 9/15 and 6/13, so it runs normally.
     let after_time = book(2)
         .job(job(10, 0).never().holds(0, 10, NEVER))
-        .job(job(20, 3).rollback(2).holds(1, 4, 2).requests(0, 1, 1))
+        .job(job(4, 3).rollback(2).holds(1, 4, 2).requests(0, 1, 1))
         .job(job(1, 6).requests(1, 1, 1));
-    expect(
-        &after_time,
-        stated(&[], "0 N 10, 1 N 4, 2 N 1, 1 N 16", 9, 31, 2),
-    );
+    expect(&after_time, stated(&[], "0 N 10, 1 N 4, 2 N 1", 9, 15, 1));
 
     // After the 10 ms and the utility 10 of job 0: 80/15 and 70/13, so it
     // rolls back. Without the utility it would be 70/15 and 60/13.
     let after_utility = book(2)
         .job(job(10, 10).never().holds(0, 10, NEVER))
-        .job(job(20, 10).rollback(2).holds(1, 4, 2).requests(0, 1, 1))
+        .job(job(4, 10).rollback(2).holds(1, 4, 2).requests(0, 1, 1))
         .job(job(1, 60).requests(1, 1, 1));
     expect(
         &after_utility,
         stated(&[], "0 N 10, 1 A 2, 2 N 1", 70, 13, 1),
     );
+}
+
+#[test]
+fn a_run_that_only_frees_a_resource_is_not_credited() {
+    // 02, R-3. For job 0, which would finish: 60/10 normally, 30/6 in rollback,
+    // since job 1 would not finish by its hold of 4. Were job 1 credited all the
+    // same, it would be 90/10 and 60/6.
+    let three = |hold: u32| {
+        book(2)
+            .job(job(5, 30).rollback(1).holds(0, 5, 1))
+            .job(job(5, 30).rollback(1).holds(1, hold, 1).requests(0, 5, 1))
+            .job(job(1, 30).requests(1, 1, 1))
+    };
+    expect(&three(4), stated(&[], "0 N 5, 1 A 1, 2 N 1", 60, 7, 1));
+    // By a hold of 5 it would: 90/11 and 60/7; then for job 1, after the 1 ms of
+    // job 0's rollback, 60/7 and 30/3.
+    expect(&three(5), stated(&[], "0 A 1, 1 A 1, 2 N 1", 30, 3, 1));
 }
 
 #[test]
@@ -270,26 +284,37 @@ fn the_longest_list_of_victims() {
 
 #[test]
 fn a_plan_may_end_past_the_last_book_time() {
-    // 10 ms before that time. For job 1 alone job 0 would run 1 ms (40/6
-    // against 50/10) and job 1 come too early to earn. For job 2 job 0 rolls
-    // back (50/30 against 40/26), job 1 earns at the last moment, and job 2
-    // runs on past it for nothing.
-    let now = LAST_TIME - 10;
-    let late = book(2)
+    // 16 ms before that time. For job 2 alone job 0 runs (40/3 against 90/7), and
+    // so does job 1 (40/3 against 0/12). For job 3 job 0 rolls back (90/27 against
+    // 40/23), so does job 1 (5000/36 against 90/27), job 2 earns at the last moment,
+    // and job 3 runs on past it for nothing.
+    let now = LAST_TIME - 16;
+    let late = book(3)
         .now(now)
-        .job(job(20, 40).rollback(5).holds(0, 1, 5).terminates(LAST_TIME))
+        .job(job(20, 0).rollback(5).holds(0, 1, 5).terminates(LAST_TIME))
         .job(
-            job(5, 0)
-                .holds(1, 5, 1)
-                .requests(0, 5, 1)
-                .curve(&[(now + 9, 50, 0)], LAST_TIME),
+            job(20, 0)
+                .rollback(10)
+                .holds(1, 1, 10)
+                .requests(0, 1, 1)
+                .terminates(LAST_TIME),
         )
-        .job(job(20, 0).requests(1, 1, 1).terminates(LAST_TIME));
+        .job(job(1, 0).holds(2, 1, 1).requests(1, 1, 1).curve(
+            &[
+                (now, 40, 0),
+                (now + 4, 90, 0),
+                (now + 8, 0, 0),
+                (now + 16, 5_000, 0),
+            ],
+            LAST_TIME,
+        ))
+        .job(job(20, 0).requests(2, 1, 1).terminates(LAST_TIME));
     let end = i64::from(LAST_TIME) + 20;
-    expect(&late, stated(&[], "0 A 5, 1 N 5, 2 N 20", 50, end, 1));
+    let parts = "0 A 5, 1 A 10, 2 N 1, 3 N 20";
+    expect(&late, stated(&[], parts, 5_000, end, 1));
     let mut out = [7; 430];
-    assert_eq!(answer(&late.bytes(), &mut out), Ok(26));
-    assert_eq!(out[22..26], [0x80, 0, 0, 19]);
+    assert_eq!(answer(&late.bytes(), &mut out), Ok(30));
+    assert_eq!(out[26..30], [0x80, 0, 0, 19]);
 }
 
 #[test]

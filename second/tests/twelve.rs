@@ -66,10 +66,10 @@ fn case_05_the_book_printed_in_01() {
 }
 
 #[test]
-fn case_06_normal_is_denser_and_the_rest_runs_later() {
-    // In the choice job 0 is credited 30 at 6 though it does not finish there:
-    // 52/11 is denser than 22/6.
-    expect(&case(6), stated(&[], "0 N 6, 1 N 5, 0 N 14", 52, 25, 2));
+fn case_06_only_finished_work_is_credited() {
+    // 02, R-3: job 0 does not finish at 6, so it is not credited 30 there, and
+    // 22/6 is denser than 22/11.
+    expect(&case(6), stated(&[], "0 A 1, 1 N 5", 22, 6, 1));
 }
 
 #[test]

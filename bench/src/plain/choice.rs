@@ -1,4 +1,5 @@
-//! Choosing a mode (VI.5 of 000 under 01's rulings).
+//! Choosing a mode (VI.5 of 000 under 01's rulings and R-3 of 02: only work that
+//! is finished is credited).
 
 use super::book::{Book, NEVER};
 use super::rounds::Waits;
@@ -28,7 +29,10 @@ pub fn rolls_back(
     }
     let next = usize::from(chain[1]);
     let mut normal_time = time + waits.hold[next];
-    let mut normal = utility + book.curve[job].worth(moment + normal_time);
+    let mut normal = utility;
+    if waits.hold[next] == book.run[job] {
+        normal += book.curve[job].worth(moment + normal_time);
+    }
     let mut back_time = time + waits.hold_back[next];
     let mut back = utility;
     // Both courses go through the later jobs alike, at other moments.
@@ -43,7 +47,7 @@ pub fn rolls_back(
         };
         normal_time += span;
         back_time += span;
-        if !rolling {
+        if !rolling && span == book.run[job] {
             normal += book.curve[job].worth(moment + normal_time);
             back += book.curve[job].worth(moment + back_time);
         }

@@ -15,9 +15,9 @@ use Rattle.curve.specs.Worth.{worthIn, worthAt}
 use Rattle.curve.specs.Density.{denserThan}
 use Rattle.gus.specs.State.{afterAll}
 use Rattle.gus.specs.Waits.{holderFrom, chainTo, chainOf}
-use Rattle.gus.specs.Course.{passed, credited, denser, toEnd}
-use Rattle.gus.specs.Choice.{reckonOne, reckon, byDensity}
-use Rattle.gus.specs.Group.{toFree, partOf, grow, groupOf}
+use Rattle.gus.specs.Course.{earned, onward, toFree, toEnd, denser}
+use Rattle.gus.specs.Choice.{reckon, byDensity}
+use Rattle.gus.specs.Group.{partOf, grow, groupOf}
 use Rattle.gus.specs.Round.{better, consider, bestOf, rounds}
 use Rattle.gus.specs.Victims.{circleFrom, circleOf, lossOf, lesser, offer, victimOf, victimsTo, victimsOf, knotTo, knotOf, settled}
 use Rattle.gus.specs.Plan.{answerTo}
@@ -110,20 +110,19 @@ case5 = record {
   word = 65538;
 }
 
--- 6. Job 0 20/30 holds r0 (6, rollback 1); job 1 5/22 requests r0 (5, 1)
+-- 6. Job 0 20/30 holds r0 (6, rollback 1); job 1 5/22 requests r0 (5, 1). The answer is R-3's (02): job 0 does not finish by running for 6
 case6 : Case
 case6 = record {
   book = ((0 ∷ 66 ∷ 1 ∷ 2 ∷ 1 ∷ 0 ∷ 0 ∷ 0 ∷ 0 ∷ [])
       ++ (0 ∷ 0 ∷ 20 ∷ 0 ∷ 1 ∷ 255 ∷ 0 ∷ 0 ∷ 0 ∷ 0 ∷ 1 ∷ 0 ∷ 0 ∷ 6 ∷ 0 ∷ 1 ∷ 1 ∷ 0 ∷ 0 ∷ 0 ∷ 0 ∷ 0 ∷ 0 ∷ 0 ∷ 30 ∷ 0 ∷ 0 ∷ 0 ∷ 0 ∷ 3 ∷ 232 ∷ [])
       ++ (0 ∷ 0 ∷ 5 ∷ 0 ∷ 1 ∷ 0 ∷ 0 ∷ 5 ∷ 0 ∷ 1 ∷ 0 ∷ 1 ∷ 0 ∷ 0 ∷ 0 ∷ 0 ∷ 0 ∷ 0 ∷ 0 ∷ 22 ∷ 0 ∷ 0 ∷ 0 ∷ 0 ∷ 3 ∷ 232 ∷ []));
-  outcome = bytes ((0 ∷ 26 ∷ 1 ∷ 0 ∷ [])
-      ++ (3 ∷ [])
-      ++ (0 ∷ 0 ∷ 0 ∷ 6 ∷ [])
+  outcome = bytes ((0 ∷ 22 ∷ 1 ∷ 0 ∷ [])
+      ++ (2 ∷ [])
+      ++ (0 ∷ 1 ∷ 0 ∷ 1 ∷ [])
       ++ (1 ∷ 0 ∷ 0 ∷ 5 ∷ [])
-      ++ (0 ∷ 0 ∷ 0 ∷ 14 ∷ [])
-      ++ (2 ∷ 0 ∷ 0 ∷ 0 ∷ 52 ∷ 0 ∷ 0 ∷ 0 ∷ 25 ∷ []));
-  first = found (partOf 0 false 6);
-  word = 6;
+      ++ (1 ∷ 0 ∷ 0 ∷ 0 ∷ 22 ∷ 0 ∷ 0 ∷ 0 ∷ 6 ∷ []));
+  first = found (partOf 0 true 1);
+  word = 65537;
 }
 
 -- 7. Case 5, job 0 rollback and held rollback 6: a tie
@@ -217,8 +216,27 @@ case12 = record {
   word = 2;
 }
 
+-- Beside the twelve, R-3 (02): a chain of three. Job 0 5/30 holds r0 (5, rollback 1); job 1 5/30 holds r1 (4, 1), requests r0 (5, 1); job 2
+-- 1/30 requests r1 (1, 1). Job 0 would finish by running and job 1 would not; were job 1 credited all the same where job 0 is decided on, job 0
+-- would roll back.
+chained : Case
+chained = record {
+  book = ((0 ∷ 97 ∷ 1 ∷ 3 ∷ 2 ∷ 0 ∷ 0 ∷ 0 ∷ 0 ∷ [])
+      ++ (0 ∷ 0 ∷ 5 ∷ 0 ∷ 1 ∷ 255 ∷ 0 ∷ 0 ∷ 0 ∷ 0 ∷ 1 ∷ 0 ∷ 0 ∷ 5 ∷ 0 ∷ 1 ∷ 1 ∷ 0 ∷ 0 ∷ 0 ∷ 0 ∷ 0 ∷ 0 ∷ 0 ∷ 30 ∷ 0 ∷ 0 ∷ 0 ∷ 0 ∷ 3 ∷ 232 ∷ [])
+      ++ (0 ∷ 0 ∷ 5 ∷ 0 ∷ 1 ∷ 0 ∷ 0 ∷ 5 ∷ 0 ∷ 1 ∷ 1 ∷ 1 ∷ 0 ∷ 4 ∷ 0 ∷ 1 ∷ 1 ∷ 0 ∷ 0 ∷ 0 ∷ 0 ∷ 0 ∷ 0 ∷ 0 ∷ 30 ∷ 0 ∷ 0 ∷ 0 ∷ 0 ∷ 3 ∷ 232 ∷ [])
+      ++ (0 ∷ 0 ∷ 1 ∷ 0 ∷ 1 ∷ 1 ∷ 0 ∷ 1 ∷ 0 ∷ 1 ∷ 0 ∷ 1 ∷ 0 ∷ 0 ∷ 0 ∷ 0 ∷ 0 ∷ 0 ∷ 0 ∷ 30 ∷ 0 ∷ 0 ∷ 0 ∷ 0 ∷ 3 ∷ 232 ∷ []));
+  outcome = bytes ((0 ∷ 26 ∷ 1 ∷ 0 ∷ [])
+      ++ (3 ∷ [])
+      ++ (0 ∷ 0 ∷ 0 ∷ 5 ∷ [])
+      ++ (1 ∷ 1 ∷ 0 ∷ 1 ∷ [])
+      ++ (2 ∷ 0 ∷ 0 ∷ 1 ∷ [])
+      ++ (1 ∷ 0 ∷ 0 ∷ 0 ∷ 60 ∷ 0 ∷ 0 ∷ 0 ∷ 7 ∷ []));
+  first = found (partOf 0 false 5);
+  word = 5;
+}
+
 table : List Case
-table = case1 ∷ case2 ∷ case3 ∷ case4 ∷ case5 ∷ case6 ∷ case7 ∷ case8 ∷ case9 ∷ case10 ∷ case11 ∷ case12 ∷ []
+table = case1 ∷ case2 ∷ case3 ∷ case4 ∷ case5 ∷ case6 ∷ case7 ∷ case8 ∷ case9 ∷ case10 ∷ case11 ∷ case12 ∷ chained ∷ []
 
 -- the answers, the first parts by one round, and the numbers that C gets for them
 abbrev Twelve : Type 0
@@ -228,7 +246,7 @@ Twelve =
     × (map (λ c. firstWord (firstIn (plannedTo 1 byDensity (c .book)))) table ≡ map (λ c. c .word) table)
 
 twelve : Twelve
-unfolding table case1 case2 case3 case4 case5 case6 case7 case8 case9 case10 case11 case12 outcomeOf valueAt judged readAt fieldOf ruleOf rollbackOk requestOk ifRequested leastRollback modeOk signedOf aroundOk lineOk headerOf rollbackRead requestedResource requestedRollback requestRead unheldRead heldResource entryRead entryNext heldRead startRead signedRead pieceRead pieceNext piecesRead endRead curveRead recordRead recordNext noRecords recordsRead tailRead acceptedBook refusedBook bookOf granted ran rolledBack worthIn worthAt denserThan afterAll holderFrom chainTo chainOf passed credited denser toEnd reckonOne reckon byDensity toFree grow groupOf better consider bestOf rounds circleFrom circleOf lossOf lesser offer victimOf victimsTo victimsOf knotTo knotOf settled answerTo upto padded heldFrom jobFrom laidPlan refusedPlan answeredTo plannedTo two four bits partBytes partsBytes answerBytes firstIn word partWord firstWord
+unfolding table case1 case2 case3 case4 case5 case6 case7 case8 case9 case10 case11 case12 chained outcomeOf valueAt judged readAt fieldOf ruleOf rollbackOk requestOk ifRequested leastRollback modeOk signedOf aroundOk lineOk headerOf rollbackRead requestedResource requestedRollback requestRead unheldRead heldResource entryRead entryNext heldRead startRead signedRead pieceRead pieceNext piecesRead endRead curveRead recordRead recordNext noRecords recordsRead tailRead acceptedBook refusedBook bookOf granted ran rolledBack worthIn worthAt denserThan afterAll holderFrom chainTo chainOf earned onward toFree toEnd denser reckon byDensity grow groupOf better consider bestOf rounds circleFrom circleOf lossOf lesser offer victimOf victimsTo victimsOf knotTo knotOf settled answerTo upto padded heldFrom jobFrom laidPlan refusedPlan answeredTo plannedTo two four bits partBytes partsBytes answerBytes firstIn word partWord firstWord
 twelve = (refl, refl, refl)
 
 -- and the whole plans' first parts

@@ -1,4 +1,4 @@
--- The choice of a mode (VI.5, with line 31 read as 01 says).
+-- The choice of a mode (VI.5, with line 31 read as 01 says, and R-3's sentence of 02).
 use mathlib.Core.Bool.{Bool, true, false}
 use mathlib.Core.List.{List, [], _∷_}
 use Prim.Native.Nat.{ℕ}
@@ -6,21 +6,18 @@ use lib.Dec.{eqb}
 use Rattle.job.specs.Times.{never}
 use Rattle.gus.specs.declared.Course.{Course}
 use Rattle.gus.specs.View.{View}
-use Rattle.gus.specs.Course.{passed, credited, denser, toEnd}
+use Rattle.gus.specs.Course.{toFree, toEnd, denser}
 
 -- a way to choose a mode, true for rollback: the planned moment, the job, the next job and those after it, the group so far
 abbrev pub Way : Type 0
 Way = View → ℕ → ℕ → ℕ → List ℕ → Course → Bool
 
--- "later jobs taken as normal unless in rollback"; "Each normal job reckoned is credited its worth at its moment"
-unfoldable pub reckonOne : View → ℕ → ℕ → ℕ → Course → Course
-reckonOne v t i k c = elim (v .rolling i) [ true ↦ passed (v .undo k) c | false ↦ credited (v .worth i) t (v .hold k) c ]
-
--- "reckoned to the end of the chain"
+-- "reckoned to the end of the chain, later jobs taken as normal unless in rollback"; "the choice credits a job before the last only where its
+-- hold is all its run time left" (R-3), which is what its part earns in a group
 unfoldable pub reckon : View → ℕ → List ℕ → Course → Course
 reckon v t [] c = c
 reckon v t (i ∷ []) c = toEnd v t i c
-reckon v t (i ∷ k ∷ ks) c = reckon v t (k ∷ ks) (reckonOne v t i k c)
+reckon v t (i ∷ k ∷ ks) c = reckon v t (k ∷ ks) (toFree v t i k (v .rolling i) c)
 
 -- "rollback if already so; normal if marked never. Else both courses are reckoned", "Normal wins ties"
 unfoldable pub byDensity : Way
@@ -30,6 +27,6 @@ byDensity v t i k ks c =
       | false ↦
           elim (eqb (v .rollback i) never) [
             | true ↦ false
-            | false ↦ denser (reckon v t (k ∷ ks) (passed (v .undo k) c)) (reckon v t (k ∷ ks) (credited (v .worth i) t (v .hold k) c))
+            | false ↦ denser (reckon v t (k ∷ ks) (toFree v t i k true c)) (reckon v t (k ∷ ks) (toFree v t i k false c))
           ]
     ]

@@ -1,6 +1,7 @@
--- Time and utility along a row of jobs, in either mode.
-use mathlib.Core.Bool.{Bool, true, false}
+-- Time and utility along a row of parts, in either mode.
+use mathlib.Core.Bool.{Bool, true, false, cond}
 use Prim.Native.Nat.{ℕ, _+_}
+use lib.Dec.{eqb}
 use lib.IntN.{ℤ, pos, _+ℤ_}
 use Rattle.curve.specs.Density.{denserThan}
 use Rattle.gus.specs.declared.Course.{Course}
@@ -9,26 +10,30 @@ use Rattle.gus.specs.View.{View}
 abbrev pub start : Course
 start = record { time = 0; gain = pos 0 }
 
--- n passes and nothing is earned; or a job's worth at that moment is
-unfoldable pub passed : ℕ → Course → Course
-passed n c = record { time = c .time + n; gain = c .gain }
-
-unfoldable pub credited : (ℕ → ℤ) → ℕ → ℕ → Course → Course
-credited worth t n c = record { time = c .time + n; gain = c .gain +ℤ worth (t + (c .time + n)) }
-
 -- the time of a part in a mode: until what k requests is free, and until job i ends
 abbrev pub span : View → Bool → ℕ → ℕ
-span v true k = v .undo k
-span v false k = v .hold k
+span v b k = cond b (v .undo k) (v .hold k)
 
 abbrev pub whole : View → Bool → ℕ → ℕ
-whole v true i = v .rollback i
-whole v false i = v .run i
+whole v b i = cond b (v .rollback i) (v .run i)
+
+-- WHAT A PART EARNS, in a group and in the choice of a mode alike: n of job i in the mode b, ended at a moment. "A normal run that is all its
+-- run time left earns its worth at that moment."
+unfoldable pub earned : View → ℕ → Bool → ℕ → ℕ → ℤ
+earned v i b n moment = elim b [ true ↦ pos 0 | false ↦ elim (eqb n (v .run i)) [ true ↦ v .worth i moment | false ↦ pos 0 ] ]
+
+-- that part after a course that began at t
+unfoldable pub onward : View → ℕ → ℕ → Bool → ℕ → Course → Course
+onward v t i b n c = record { time = c .time + n; gain = c .gain +ℤ earned v i b n (t + (c .time + n)) }
+
+-- job i until what k requests is free; and in its own mode to its end: "runs to its end and earns its worth, or, if in rollback, rolls back to
+-- its end and earns nothing"
+unfoldable pub toFree : View → ℕ → ℕ → ℕ → Bool → Course → Course
+toFree v t i k b c = onward v t i b (span v b k) c
+
+unfoldable pub toEnd : View → ℕ → ℕ → Course → Course
+toEnd v t i c = onward v t i (v .rolling i) (whole v (v .rolling i) i) c
 
 -- more utility per millisecond, exactly
 unfoldable pub denser : Course → Course → Bool
 denser a b = denserThan (a .gain) (a .time) (b .gain) (b .time)
-
--- a job's time to its end in its own mode: "runs to its end and earns its worth, or, if in rollback, rolls back to its end and earns nothing"
-unfoldable pub toEnd : View → ℕ → ℕ → Course → Course
-toEnd v t i c = elim (v .rolling i) [ true ↦ passed (v .rollback i) c | false ↦ credited (v .worth i) t (v .run i) c ]

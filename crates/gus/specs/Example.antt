@@ -1,4 +1,4 @@
--- Worked examples: cases 2 and 5 to 12 of 01, a circle that job 0 is not on, and two circles of which one is settled, computed.
+-- Worked examples: cases 2 and 5 to 12 of 01 (6 as R-3 of 02 has it), a chain of three, a circle that job 0 is not on, and two circles of which one is settled, computed.
 use mathlib.Core.Path.{_≡_, refl}
 use mathlib.Core.Bool.{Bool, true, false, cond}
 use mathlib.Core.List.{List, [], _∷_, _++_, map}
@@ -18,9 +18,9 @@ use Rattle.gus.specs.declared.Part.{Part}
 use Rattle.gus.specs.State.{vacant, jobAt, afterAll}
 use Rattle.gus.specs.Waits.{nobody, waitsFor, holderFrom, chainTo, chainOf}
 use Rattle.gus.specs.View.{Pay, viewOf}
-use Rattle.gus.specs.Course.{passed, credited, denser, toEnd}
-use Rattle.gus.specs.Choice.{reckonOne, reckon, byDensity}
-use Rattle.gus.specs.Group.{toFree, partOf, grow, groupOf}
+use Rattle.gus.specs.Course.{earned, onward, toFree, toEnd, denser}
+use Rattle.gus.specs.Choice.{reckon, byDensity}
+use Rattle.gus.specs.Group.{partOf, grow, groupOf}
 use Rattle.gus.specs.Round.{better, consider, bestOf, rounds}
 use Rattle.gus.specs.Victims.{circleFrom, circleOf, lossOf, lesser, offer, victimOf, victimsTo, victimsOf, knotTo, knotOf, settled}
 use Rattle.gus.specs.Plan.{answerTo, answerOf}
@@ -82,6 +82,10 @@ twelve =
     ∷ job 1 never (asking 0 1 never) none
     ∷ []
 
+-- a chain of three: job 1 waits for job 0, and job 2 for job 1
+abbrev chained : List Job
+chained = job 5 1 noRequest (holding 0 5 1 none) ∷ job 5 1 (asking 0 5 1) (holding 1 4 1 none) ∷ job 1 1 (asking 1 1 1) none ∷ []
+
 abbrev four : List ℕ
 four = 0 ∷ 1 ∷ 2 ∷ 3 ∷ []
 
@@ -97,13 +101,15 @@ record Cases : Type 0 where
   -- by one round alone
   first2 : answerTo 1 byDensity (flat (50 ∷ 40 ∷ [])) (book two) 0 ≡ record { victims = []; plan = record { parts = partOf 1 false 4 ∷ []; rounds = 1; total = pos 40; end = 4 } }
   case5 : Plans (0 ∷ 22 ∷ []) (five 6 2) [] (partOf 0 true 2 ∷ partOf 1 false 5 ∷ []) 1 22 7
-  case6 : Plans (30 ∷ 22 ∷ []) (five 20 1) [] (partOf 0 false 6 ∷ partOf 1 false 5 ∷ partOf 0 false 14 ∷ []) 2 52 25
+  case6 : Plans (30 ∷ 22 ∷ []) (five 20 1) [] (partOf 0 true 1 ∷ partOf 1 false 5 ∷ []) 1 22 6
   case7 : Plans (0 ∷ 22 ∷ []) (five 6 6) [] (partOf 0 false 6 ∷ partOf 1 false 5 ∷ []) 1 22 11
   case8 : Plans (0 ∷ 10 ∷ []) eight [] (partOf 0 false 8 ∷ partOf 1 false 2 ∷ []) 1 10 10
   case9 : Plans (50 ∷ 20 ∷ []) (nine 3 1 3 1) (1 ∷ []) (partOf 1 true 3 ∷ partOf 0 false 10 ∷ []) 1 50 13
   case10 : Plans (50 ∷ 20 ∷ []) (nine 3 1 never never) (0 ∷ []) (partOf 0 true 3 ∷ partOf 1 false 10 ∷ []) 1 20 13
   case11 : knotOf (viewOf (flat (50 ∷ 20 ∷ [])) (book (nine never never never never))) 0 ≡ 0
   case12 : Plans (0 ∷ 5 ∷ 60 ∷ 5 ∷ []) twelve [] (partOf 0 false 2 ∷ partOf 1 false 3 ∷ partOf 2 false 1 ∷ partOf 1 false 6 ∷ partOf 3 false 1 ∷ []) 2 70 13
+  -- R-3: running job 0 would end it, and running job 1 would not. Were job 1 still credited where job 0 is decided on, job 0 would roll back.
+  three : Plans (30 ∷ 30 ∷ 30 ∷ []) chained [] (partOf 0 false 5 ∷ partOf 1 true 1 ∷ partOf 2 false 1 ∷ []) 1 60 7
   -- the victims of case 9 behind a job that waits for nobody
   behind-job-0 : victimsOf (viewOf (flat (7 ∷ 50 ∷ 20 ∷ [])) (book (job 1 1 noRequest none ∷ nine 3 1 3 1))) 0 ≡ 2 ∷ []
   -- R-8: job 1, the first victim, has not ended, is in rollback and on no circle any more; no member of the second circle is in rollback
@@ -114,7 +120,7 @@ record Cases : Type 0 where
   none-in-rollback : inRollback (onCircle firstSettled) ≡ false ∷ false ∷ false ∷ false ∷ []
 
 cases : Cases
-unfolding answerTo victimsOf victimsTo victimOf offer lesser lossOf circleOf circleFrom knotOf knotTo settled rounds bestOf consider better groupOf grow toFree byDensity reckon reckonOne toEnd denser denserThan passed credited chainOf chainTo holderFrom afterAll upto granted ran rolledBack
+unfolding answerTo victimsOf victimsTo victimOf offer lesser lossOf circleOf circleFrom knotOf knotTo settled rounds bestOf consider better groupOf grow byDensity reckon toFree toEnd onward earned denser denserThan chainOf chainTo holderFrom afterAll upto granted ran rolledBack
 cases = record {
   case2 = refl;
   first2 = refl;
@@ -126,6 +132,7 @@ cases = record {
   case10 = refl;
   case11 = refl;
   case12 = refl;
+  three = refl;
   behind-job-0 = refl;
   circles-before = refl;
   circles-then = refl;

@@ -1,26 +1,17 @@
 -- The group of a job: the parts along its chain (VI.3), for any way of choosing a mode.
-use mathlib.Core.Bool.{Bool, true, false}
+use mathlib.Core.Bool.{Bool}
 use mathlib.Core.List.{List, [], _∷_}
 use Prim.Native.Nat.{ℕ}
-use lib.Dec.{eqb}
 use Rattle.gus.specs.declared.Part.{Part}
 use Rattle.gus.specs.declared.Course.{Course}
 use Rattle.gus.specs.Waits.{chainOf}
 use Rattle.gus.specs.View.{View}
-use Rattle.gus.specs.Course.{start, passed, credited, span, whole, toEnd}
+use Rattle.gus.specs.Course.{start, span, whole, toFree, toEnd}
 use Rattle.gus.specs.Choice.{Way}
 
 pub record Group : Type 0 where
   pub parts : List Part
   pub course : Course
-
--- job i until what k requests is free: "A normal run that is all its run time left earns its worth at that moment"
-unfoldable pub toFree : View → ℕ → ℕ → ℕ → Bool → Course → Course
-toFree v t i k b c =
-    elim b [
-      | true ↦ passed (v .undo k) c
-      | false ↦ elim (eqb (v .hold k) (v .run i)) [ true ↦ credited (v .worth i) t (v .hold k) c | false ↦ passed (v .hold k) c ]
-    ]
 
 abbrev pub partOf : ℕ → Bool → ℕ → Part
 partOf i b n = record { job = i; rolling = b; time = n }

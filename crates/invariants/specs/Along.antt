@@ -13,9 +13,9 @@ use Rattle.gus.specs.declared.Course.{Course}
 use Rattle.gus.specs.State.{jobAt}
 use Rattle.gus.specs.Waits.{waitsFor}
 use Rattle.gus.specs.View.{Pay, View, viewOf}
-use Rattle.gus.specs.Course.{span, whole}
+use Rattle.gus.specs.Course.{span, whole, toFree}
 use Rattle.gus.specs.Choice.{Way}
-use Rattle.gus.specs.Group.{toFree, partOf, grow}
+use Rattle.gus.specs.Group.{partOf, grow}
 use Rattle.invariants.specs.Sound.{Sound}
 use Rattle.invariants.specs.Chains.{Chain, alone, link}
 use Rattle.invariants.specs.Fair.{Fair}

@@ -17,9 +17,9 @@ use Rattle.gus.specs.declared.Course.{Course}
 use Rattle.gus.specs.State.{jobAt}
 use Rattle.gus.specs.Waits.{waitsFor, chainOf}
 use Rattle.gus.specs.View.{Pay, View, viewOf}
-use Rattle.gus.specs.Course.{start, passed, credited, span, whole, toEnd}
+use Rattle.gus.specs.Course.{start, earned, onward, toFree, toEnd}
 use Rattle.gus.specs.Choice.{Way}
-use Rattle.gus.specs.Group.{toFree, partOf, grow, groupOf}
+use Rattle.gus.specs.Group.{grow, groupOf}
 use Rattle.invariants.specs.Sound.{Member}
 use Rattle.invariants.specs.Proper.{Proper}
 use Rattle.invariants.specs.Waiting.{Ready}
@@ -28,62 +28,37 @@ use Rattle.invariants.specs.Fair.{Fair}
 use Rattle.invariants.specs.Runs.{Runs, last, next, group-runs}
 use Rattle.invariants.specs.Replay.{lasts, pays, paid}
 
--- what a part read off the view earns that ends at a moment: its job's worth, if it is a normal run of all that is left
-unfoldable earned : View → Part → ℕ → ℤ
-earned v p moment = cond (p .rolling) (pos 0) (cond (eqb (p .time) (v .run (p .job))) (v .worth (p .job) moment) (pos 0))
-
-unfoldable onward : View → ℕ → Part → Course → Course
-onward v t p c = record { time = c .time + p .time; gain = c .gain +ℤ earned v p (t + (c .time + p .time)) }
-
+-- the course of parts read off a view
 unfoldable courseOf : View → ℕ → List Part → Course → Course
 courseOf v t [] c = c
-courseOf v t (p ∷ ps) c = courseOf v t ps (onward v t p c)
-
-module _ (v : View) (t i : ℕ) (c : Course) where
-  free-onward : (k : ℕ) (b : Bool) → toFree v t i k b c ≡ onward v t (partOf i b (span v b k)) c
-  unfolding toFree onward earned passed credited
-  free-onward k true = rw +ℤ-idr
-  free-onward k false = elim (ℕ-discrete (v .hold k) (v .run i)) [
-    | yes e ↦ rw (eq-eqb (v .hold k) (v .run i) e, toFree)
-    | no ne ↦ rw (ne-eqb (v .hold k) (v .run i) ne, +ℤ-idr, toFree)
-  ]
-
-  end-onward : toEnd v t i c ≡ onward v t (partOf i (v .rolling i) (whole v (v .rolling i) i)) c
-  unfolding toEnd onward earned passed credited
-  end-onward = go (v .rolling i)
-    where
-      go : (b : Bool) → (elim b as (λ x. Course) [ true ↦ passed (v .rollback i) c | false ↦ credited (v .worth i) t (v .run i) c ]) ≡ onward v t (partOf i b (whole v b i)) c
-      go true = rw +ℤ-idr
-      go false = rw (eq-eqb (v .run i) (v .run i) refl)
+courseOf v t (p ∷ ps) c = courseOf v t ps (onward v t (p .job) (p .rolling) (p .time) c)
 
 grow-course : (way : Way) (v : View) (t i : ℕ) (ks : List ℕ) (c : Course) → grow way v t (i ∷ ks) c .course ≡ courseOf v t (grow way v t (i ∷ ks) c .parts) c
-unfolding grow courseOf
-grow-course way v t i [] c = end-onward v t i c
-grow-course way v t i (k ∷ ks) c =
-    let d : Course = toFree v t i k (way v t i k ks c) c in
-    grow-course way v t k ks d ∙ ap (courseOf v t (grow way v t (k ∷ ks) d .parts)) (free-onward v t i c k (way v t i k ks c))
+unfolding grow courseOf toFree toEnd
+grow-course way v t i [] c = refl
+grow-course way v t i (k ∷ ks) c = grow-course way v t k ks (toFree v t i k (way v t i k ks c) c)
 
 course-time : (v : View) (t : ℕ) (ps : List Part) (c : Course) → courseOf v t ps c .time ≡ c .time + lasts ps
 unfolding courseOf onward lasts
 course-time v t [] c = omega arith
-course-time v t (p ∷ ps) c = omega (arith, course-time v t ps (onward v t p c))
+course-time v t (p ∷ ps) c = omega (arith, course-time v t ps (onward v t (p .job) (p .rolling) (p .time) c))
 
 -- a proper part of a job that is as it was when it was read pays what it earns
-pays-earned : (pay : Pay) (js₀ : List Job) {js : List Job} {p : Part} (moment : ℕ) → Proper js p → jobAt js (p .job) ≡ jobAt js₀ (p .job) → pays pay js p moment ≡ earned (viewOf pay js₀) p moment
+pays-earned : (pay : Pay) (js₀ : List Job) {js : List Job} {p : Part} (moment : ℕ) → Proper js p → jobAt js (p .job) ≡ jobAt js₀ (p .job) → pays pay js p moment ≡ earned (viewOf pay js₀) (p .job) (p .rolling) (p .time) moment
 unfolding pays earned
 pays-earned pay js₀ {js} {p} moment g q = go (p .rolling) (g .left)
   where
     j : Job
     j = jobAt js (p .job)
 
-    go : (b : Bool) → p .time ≤ leftIn b j → cond b (pos 0) (cond (eqb (worked b (p .time) j .run) 0) (pay (p .job) moment) (pos 0)) ≡ cond b (pos 0) (cond (eqb (p .time) (jobAt js₀ (p .job) .run)) (pay (p .job) moment) (pos 0))
+    go : (b : Bool) → p .time ≤ leftIn b j → cond b (pos 0) (cond (eqb (worked b (p .time) j .run) 0) (pay (p .job) moment) (pos 0)) ≡ earned (viewOf pay js₀) (p .job) b (p .time) moment
     go true l = refl
     go false l =
         let x : worked false (p .time) j .run ≡ j .run - p .time = ran-run (p .time) (granted j) ∙ ap (λ (n : ℕ). n - p .time) (granted-run j) in
         let z : jobAt js₀ (p .job) .run ≡ j .run = ap (λ (k : Job). k .run) (sym q) in
         elim (ℕ-discrete (p .time) (j .run)) [
-          | yes y ↦ rw (eq-eqb (worked false (p .time) j .run) 0 (omega arith), eq-eqb (p .time) (jobAt js₀ (p .job) .run) (omega arith))
-          | no ne ↦ rw (ne-eqb (worked false (p .time) j .run) 0 (λ e. ne (omega arith)), ne-eqb (p .time) (jobAt js₀ (p .job) .run) (λ e. ne (omega arith)))
+          | yes y ↦ rw (eq-eqb (worked false (p .time) j .run) 0 (omega arith), earned, eq-eqb (p .time) (jobAt js₀ (p .job) .run) (omega arith))
+          | no ne ↦ rw (ne-eqb (worked false (p .time) j .run) 0 (λ e. ne (omega arith)), earned, ne-eqb (p .time) (jobAt js₀ (p .job) .run) (λ e. ne (omega arith)))
         ]
 
 course-paid : (pay : Pay) {js₀ js : List Job} {ps : List Part} (t : ℕ) (c : Course) → Runs js₀ js ps → courseOf (viewOf pay js₀) t ps c .gain ≡ c .gain +ℤ paid pay js (t + c .time) ps
@@ -93,7 +68,7 @@ course-paid pay {js₀} {js} t c (last {p = p} g e l) =
     rw (m, pays-earned pay js₀ (t + (c .time + p .time)) g e, +ℤ-idr)
 course-paid pay {js₀} {js} t c (next {p = p} {ps = ps} g e u r) =
     let m : t + c .time + p .time ≡ t + (c .time + p .time) = omega arith in
-    rw (m, pays-earned pay js₀ (t + (c .time + p .time)) g e, ← +ℤ-assoc) (course-paid pay t (onward (viewOf pay js₀) t p c) r)
+    rw (m, pays-earned pay js₀ (t + (c .time + p .time)) g e, ← +ℤ-assoc) (course-paid pay t (onward (viewOf pay js₀) t (p .job) (p .rolling) (p .time) c) r)
 
 -- THE GROUP OF A JOB that is left
 module _ (pay : Pay) {way : Way} {js : List Job} (t i : ℕ) (f : Fair way) (y : Ready js) (m : Member js i) where

@@ -4,7 +4,7 @@ use mathlib.Core.Bool.{false}
 use mathlib.Core.List.{List}
 use Prim.Native.Nat.{ℕ, _*_, _<_, _≤_}
 use lib.IntN.{ℤ, natAbs}
-use lib.ListN.{length, getD}
+use lib.ListN.{length}
 use Rattle.gus.specs.declared.Course.{Course}
 use Rattle.gus.specs.Waits.{nobody}
 use Rattle.gus.specs.View.{View}
@@ -59,11 +59,10 @@ pub record Along (v : View) (t : ℕ) (members : List ℕ) (k : ℕ) (c : Course
   pub place : k < 32
   pub small : Small k c
 
--- of the member at place k of it, which is not the last and not in rollback
+-- of the member at place k of it, which is not the last
 pub record Undoing (v : View) (t : ℕ) (members : List ℕ) (k : ℕ) (c : Course) : Type 0 where
   pub along : Along v t members k c
   pub more : k < 31
-  pub normal : v .rolling (getD members k 0) ≡ false
 
 -- from the n-th job on nobody is left and nobody waits
 pub record Beyond (n : ℕ) (v : View) : Type 0 where

@@ -1,11 +1,10 @@
 -- How far times and gains go: each job of a chain adds at most 65,535 milliseconds and a million.
-use Prim.Native.Nat.{ℕ, suc, _+_, _*_, _≤_}
+use Prim.Native.Nat.{ℕ, _*_, _≤_}
 use native.Mathlib.Omega.{arith}
-use lib.IntN.{ℤ, natAbs}
-use Rattle.laws.specs.Signed.{abs-add}
+use lib.IntN.{natAbs}
 use Rattle.gus.specs.declared.Course.{Course}
 use Rattle.gus.specs.View.{View}
-use Rattle.gus.specs.Course.{start, passed, credited}
+use Rattle.gus.specs.Course.{start}
 pub use Rattle.opening.specs.Modest.{Modest}
 
 -- every time of a view fits in 16 bits
@@ -32,15 +31,3 @@ small-more h s = record { time = omega arith; gain = omega arith }
 
 pub small-start : {k : ℕ} → Small k start
 small-start = record { time = omega arith; gain = omega arith }
-
-module _ (n k : ℕ) (c : Course) (s : Small k c) (h : n ≤ 65535) where
-  pub small-passed : Small (suc k) (passed n c)
-  unfolding passed
-  small-passed = record { time = omega arith; gain = omega arith }
-
-  pub small-credited : (worth : ℕ → ℤ) (t : ℕ) → ((m : ℕ) → natAbs (worth m) ≤ 1000000) → Small (suc k) (credited worth t n c)
-  unfolding credited
-  small-credited worth t w = record {
-    time = omega arith;
-    gain = omega (arith, w (t + (c .time + n)), abs-add (c .gain) (worth (t + (c .time + n))));
-  }

@@ -13,12 +13,12 @@ use Rattle.laws.specs.Placed.{chainIn, chain-two, chain-next, chain-last, chain
 use Rattle.gus.specs.declared.Part.{Part}
 use Rattle.gus.specs.declared.Course.{Course}
 use Rattle.gus.specs.View.{View}
-use Rattle.gus.specs.Course.{start}
-use Rattle.gus.specs.Choice.{byDensity}
+use Rattle.gus.specs.Course.{start, span, whole, onward, toFree, toEnd}
+use Rattle.gus.specs.Choice.{Way}
 use Rattle.gus.specs.Group.{Group, partOf, grow}
 use Rattle.planner.specs.Bounds.{Modest, short, Small, small-start}
 use Rattle.planner.specs.Asking.{Along}
-use Rattle.planner.specs.Turn.{spanAt, span-in, whole-in, stepped, step-free, step-end, span-short, small-stepped}
+use Rattle.planner.specs.Turn.{spanAt, span-short, small-onward}
 use Rattle.planner.specs.Choosing.{modeAt}
 
 -- the modes of a group's parts, and in a row of 32
@@ -32,10 +32,10 @@ modesOut g = padded 32 false (modesOf g)
 abbrev pub ahead : Part → Group → Group
 ahead p g = record { parts = p ∷ g .parts; course = g .course }
 
-module _ (v : View) (t : ℕ) (members : List ℕ) where
+module _ (way : Way) (v : View) (t : ℕ) (members : List ℕ) where
   -- what the members from place k on make after c
   abbrev pub grown : ℕ → Course → Group
-  grown k c = grow byDensity v t (chainIn members k) c
+  grown k c = grow way v t (chainIn members k) c
 
   -- what a walk from there on may rely on, with the row for its modes
   pub record Walking (from : ℕ) (modes : List Bool) : Type 0 where
@@ -46,26 +46,25 @@ module _ (v : View) (t : ℕ) (members : List ℕ) where
   pub record Turn (k i : ℕ) (c : Course) (b : Bool) (n : ℕ) (d : Course) : Type 0 where
     pub more : k < 32
     pub job : i ≡ getD members k 0
-    pub mode : b ≡ modeAt v t members k c
+    pub mode : b ≡ modeAt way v t members k c
     pub span : n ≡ spanAt v members k b
-    pub course : d ≡ stepped v t i b n c
+    pub course : d ≡ onward v t i b n c
 
   -- the mode and the time of the member at place k, by whether another one comes after it
   mode : ℕ → Course → Bool → Bool
-  mode k c more = elim more [ true ↦ byDensity v t (getD members k 0) (getD members (k + 1) 0) (chainIn members (k + 2)) c | false ↦ v .rolling (getD members k 0) ]
+  mode k c more = elim more [ true ↦ way v t (getD members k 0) (getD members (k + 1) 0) (chainIn members (k + 2)) c | false ↦ v .rolling (getD members k 0) ]
 
   time : ℕ → Bool → Bool → ℕ
-  time k b more = cond more (cond b (v .undo (getD members (k + 1) 0)) (v .hold (getD members (k + 1) 0))) (cond b (v .rollback (getD members k 0)) (v .run (getD members k 0)))
+  time k b more = cond more (span v b (getD members (k + 1) 0)) (whole v b (getD members k 0))
 
-  grow-by : (k : ℕ) (c : Course) (more : Bool) → k < 32 → ltb k 31 ≡ more → grown k c ≡ ahead (partOf (getD members k 0) (mode k c more) (time k (mode k c more) more)) (grown (k + 1) (stepped v t (getD members k 0) (mode k c more) (time k (mode k c more) more) c))
-  unfolding grow mode time
+  grow-by : (k : ℕ) (c : Course) (more : Bool) → k < 32 → ltb k 31 ≡ more → grown k c ≡ ahead (partOf (getD members k 0) (mode k c more) (time k (mode k c more) more)) (grown (k + 1) (onward v t (getD members k 0) (mode k c more) (time k (mode k c more) more) c))
+  unfolding grow mode time toFree toEnd
   grow-by k c true h e =
       let l : k < 31 = ltb-true k 31 e in
-      let b : Bool = byDensity v t (getD members k 0) (getD members (k + 1) 0) (chainIn members (k + 2)) c in
-      rw (chain-two members k l, chain-next members k l, ← span-in v b (getD members (k + 1) 0), step-free v t (getD members k 0) c (getD members (k + 1) 0) b)
+      rw (chain-two members k l, chain-next members k l)
   grow-by k c false h e =
       let z : k ≡ 31 = omega (arith, ltb-false k 31 e) in
-      rw (z, chain-last, chain-none, ← whole-in v (v .rolling (getD members 31 0)) (getD members 31 0), step-end v t (getD members 31 0) c)
+      rw (z, chain-last, chain-none)
 
   pub grow-turn : {k i : ℕ} {c : Course} {b : Bool} {n : ℕ} {d : Course} → Turn k i c b n d → grown k c ≡ ahead (partOf i b n) (grown (k + 1) d)
   unfolding mode time
@@ -92,7 +91,7 @@ module _ (v : View) (t : ℕ) (members : List ℕ) where
     pub growing-next : {modes : List Bool} {n k i : ℕ} {c : Course} {b : Bool} {s : ℕ} {d : Course} → Modest v → Growing modes c n k → Turn k i c b s d → Growing (set modes n b) d (n + 1) (k + 1)
     growing-next {modes} {n} {k} {i} {c} {b} {s} m g r = record {
       within = omega (arith, r .more);
-      small = rw (add-one, r .course) (small-stepped v m t i b s k c (rw (r .span) (span-short v (short m) members k b)) (g .small));
+      small = rw (add-one, r .course) (small-onward v m t i b s k c (rw (r .span) (span-short v (short m) members k b)) (g .small));
       places = omega (arith, g .places);
       same = sym (ap (λ (g : Group). g .course) (grow-turn r)) ∙ g .same;
       pushing = push-next (rw (grow-turn r) at (g .pushing)) (omega (arith, g .places, r .more));

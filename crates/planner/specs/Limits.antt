@@ -12,9 +12,9 @@ use Rattle.gus.specs.declared.Course.{Course}
 use Rattle.gus.specs.declared.Best.{Best}
 use Rattle.gus.specs.Waits.{chainTo, chainOf}
 use Rattle.gus.specs.View.{View}
-use Rattle.gus.specs.Course.{start, denser}
+use Rattle.gus.specs.Course.{start, toFree, denser}
 use Rattle.gus.specs.Choice.{Way}
-use Rattle.gus.specs.Group.{toFree, grow, groupOf}
+use Rattle.gus.specs.Group.{grow, groupOf}
 use Rattle.gus.specs.Round.{better, consider, noBest, bestOf}
 use Rattle.planner.specs.Bounds.{Modest, Small, small-more, small-start}
 use Rattle.planner.specs.Turn.{small-to-free, small-to-end}

@@ -3,21 +3,20 @@ use mathlib.Core.Path.{_≡_, refl, sym, _∙_}
 use mathlib.Core.Bool.{Bool, true, false, cond}
 use mathlib.Core.List.{List}
 use Prim.Native.Nat.{ℕ, _+_, _<_, _≤_}
-use native.Mathlib.Numerals.{add-one}
 use native.Mathlib.Omega.{arith}
 use borrow.Author.Tests.{ltb-true, ltb-false}
 use lib.Dec.{ltb}
-use lib.IntN.{ℤ, _+ℤ_}
+use lib.IntN.{ℤ, _+ℤ_, +ℤ-idr}
 use lib.ListN.{getD}
 use Rattle.gus.specs.declared.Course.{Course}
 use Rattle.gus.specs.View.{View}
-use Rattle.gus.specs.Course.{passed, credited, denser}
-use Rattle.gus.specs.Choice.{reckonOne, reckon}
-use Rattle.planner.specs.Bounds.{short, Small, small-passed, small-credited}
+use Rattle.gus.specs.Course.{span, whole, earned, onward, toFree, toEnd, denser}
+use Rattle.gus.specs.Choice.{reckon}
+use Rattle.planner.specs.Bounds.{short, Small, small-more}
 use Rattle.laws.specs.Placed.{Below, chainIn, chain-two, chain-next, chain-last, chain-none}
 use Rattle.planner.specs.Asking.{Seeing, Earning, Along}
 use Rattle.planner.specs.Choosing.{undoneIsDenser}
-use Rattle.planner.specs.Turn.{spanAt, earned, turned, turn-free, turn-end, span-short, small-turned}
+use Rattle.planner.specs.Turn.{spanAt, span-short, small-onward, small-to-free}
 
 -- c is what the members before place k make, and from c the others make what all make from c₀
 pub record Reckoning (v : View) (t : ℕ) (members : List ℕ) (from : ℕ) (c₀ c : Course) (k : ℕ) : Type 0 where
@@ -26,24 +25,18 @@ pub record Reckoning (v : View) (t : ℕ) (members : List ℕ) (from : ℕ) (c�
   pub same : reckon v t (chainIn members k) c ≡ reckon v t (chainIn members from) c₀
 
 module _ (v : View) (t : ℕ) (members : List ℕ) where
-  -- the member at place k: before another one, that one running, and any of the 32
-  reckon-before : (k : ℕ) (c : Course) → k < 31 → reckon v t (chainIn members k) c ≡ reckon v t (chainIn members (k + 1)) (reckonOne v t (getD members k 0) (getD members (k + 1) 0) c)
-  unfolding reckon
-  reckon-before k c h = rw (chain-two members k h, chain-next members k h)
-
-  reckon-run : (k : ℕ) (c : Course) → k < 31 → v .rolling (getD members k 0) ≡ false → reckon v t (chainIn members k) c ≡ reckon v t (chainIn members (k + 1)) (credited (v .worth (getD members k 0)) t (v .hold (getD members (k + 1) 0)) c)
-  unfolding reckonOne
-  reckon-run k c h e = rw (e, reckonOne) at (reckon-before k c h)
-
-  reckon-turn : (k i : ℕ) (c : Course) → k < 32 → i ≡ getD members k 0 → reckon v t (chainIn members k) c ≡ reckon v t (chainIn members (k + 1)) (turned v t i (spanAt v members k (v .rolling i)) c)
-  unfolding reckon
+  -- the turn of the member at place k, which is job i
+  reckon-turn : (k i : ℕ) (c : Course) → k < 32 → i ≡ getD members k 0 → reckon v t (chainIn members k) c ≡ reckon v t (chainIn members (k + 1)) (onward v t i (v .rolling i) (spanAt v members k (v .rolling i)) c)
+  unfolding reckon toFree toEnd
   reckon-turn k i c h p = by (ltb k 31) refl
     where
-      by : (b : Bool) → ltb k 31 ≡ b → reckon v t (chainIn members k) c ≡ reckon v t (chainIn members (k + 1)) (turned v t i (cond b (cond (v .rolling i) (v .undo (getD members (k + 1) 0)) (v .hold (getD members (k + 1) 0))) (cond (v .rolling i) (v .rollback (getD members k 0)) (v .run (getD members k 0)))) c)
-      by true e = rw (← turn-free v t i c (getD members (k + 1) 0), p) (reckon-before k c (ltb-true k 31 e))
+      by : (b : Bool) → ltb k 31 ≡ b → reckon v t (chainIn members k) c ≡ reckon v t (chainIn members (k + 1)) (onward v t i (v .rolling i) (cond b (span v (v .rolling i) (getD members (k + 1) 0)) (whole v (v .rolling i) (getD members k 0))) c)
+      by true e =
+          let l : k < 31 = ltb-true k 31 e in
+          rw (p, chain-two members k l, chain-next members k l)
       by false e =
           let z : k ≡ 31 = omega (arith, ltb-false k 31 e) in
-          rw (← p, ← turn-end v t i c, p, z, chain-last, chain-none)
+          rw (p, z, chain-last, chain-none)
 
   module _ (from : ℕ) (c₀ : Course) where
     reckoning-begin : from ≤ 32 → Small from c₀ → Reckoning v t members from c₀ c₀ from
@@ -60,10 +53,11 @@ module _ (v : View) (t : ℕ) (members : List ℕ) where
           gain-small = omega (arith, r .small .gain);
         }
 
-        pub reckoning-next : (gain other : ℤ) → gain ≡ other → other ≡ earned v t i (c .time + n) (c .gain) → Reckoning v t members from c₀ (record { time = c .time + n; gain = gain }) (k + 1)
+        pub reckoning-next : (gain other : ℤ) → gain ≡ other → other ≡ c .gain +ℤ earned v i (v .rolling i) n (t + (c .time + n)) → Reckoning v t members from c₀ (record { time = c .time + n; gain = gain }) (k + 1)
+        unfolding onward
         reckoning-next gain other e f = rw (e, f, q) record {
           within = omega arith;
-          small = small-turned v (s .modest) t i (spanAt v members k (v .rolling i)) k c (span-short v (short (s .modest)) members k (v .rolling i)) (r .small);
+          small = small-more (omega arith) (small-onward v (s .modest) t i (v .rolling i) (spanAt v members k (v .rolling i)) k c (span-short v (short (s .modest)) members k (v .rolling i)) (r .small));
           same = sym (reckon-turn k i c h p) ∙ r .same;
         }
 
@@ -73,27 +67,26 @@ module _ (v : View) (t : ℕ) (members : List ℕ) where
           let e : k ≡ 32 = omega (arith, r .within) in
           rw (e, chain-none) at (r .same)
 
-  -- the two courses of the job at place k, which is not in rollback: it runs, or it rolls back
+  -- the two courses of the job at place k: it runs, or it rolls back
   module _ (k : ℕ) (c : Course) (a : Along v t members k c) (h : k < 31) where
-    abbrev pub run : Course
-    run = credited (v .worth (getD members k 0)) t (v .hold (getD members (k + 1) 0)) c
+    abbrev pub course : Bool → Course
+    course b = toFree v t (getD members k 0) (getD members (k + 1) 0) b c
 
-    pub run-first : (i x n : ℕ) (gain : ℤ) → i ≡ getD members k 0 → x ≡ getD members (k + 1) 0 → n ≡ v .hold x → gain ≡ c .gain +ℤ v .worth i (t + (c .time + n)) → record { time = c .time + n; gain = gain } ≡ run
-    unfolding credited
+    pub run-first : (i x n : ℕ) (gain : ℤ) → i ≡ getD members k 0 → x ≡ getD members (k + 1) 0 → n ≡ v .hold x → gain ≡ c .gain +ℤ earned v i false n (t + (c .time + n)) → record { time = c .time + n; gain = gain } ≡ course false
+    unfolding toFree onward
     run-first i x n gain p q e g = rw (g, e, p, q)
 
-    pub undone-first : (x n : ℕ) (gain : ℤ) → n ≡ v .undo x → gain ≡ c .gain → record { time = c .time + n; gain = gain } ≡ passed (v .undo x) c
-    unfolding passed
-    undone-first x n gain e g = rw (g, e)
+    pub undone-first : (x n : ℕ) (gain : ℤ) → x ≡ getD members (k + 1) 0 → n ≡ v .undo x → gain ≡ c .gain → record { time = c .time + n; gain = gain } ≡ course true
+    unfolding toFree onward earned
+    undone-first x n gain q e g = rw (g, e, q, +ℤ-idr)
 
-    module _ (x : ℕ) (normal undone : Course) (e : normal ≡ run) (u : undone ≡ passed (v .undo x) c) where
+    module _ (normal undone : Course) (e : normal ≡ course false) (u : undone ≡ course true) where
+      begin : (b : Bool) (d : Course) → d ≡ course b → Reckoning v t members (k + 1) d d (k + 1)
+      begin b d q = reckoning-begin (k + 1) d (omega arith) (rw q (small-more (omega arith) (small-to-free v (a .seeing .modest) t _ _ b k c (a .small))))
+
       pub both-begin : Reckoning v t members (k + 1) normal normal (k + 1) × Reckoning v t members (k + 1) undone undone (k + 1)
-      both-begin = (
-        reckoning-begin (k + 1) normal (omega arith) (rw (e, add-one) (small-credited _ k c (a .small) (a .seeing .modest .hold _) (v .worth (getD members k 0)) t (a .seeing .modest .worth _))),
-        reckoning-begin (k + 1) undone (omega arith) (rw (u, add-one) (small-passed _ k c (a .small) (a .seeing .modest .undo _))),
-      )
+      both-begin = (begin false normal e, begin true undone u)
 
-      pub both-ended : v .rolling (getD members k 0) ≡ false → (i : ℕ) → 32 ≤ i → (n b : Course) → Reckoning v t members (k + 1) normal n i → Reckoning v t members (k + 1) undone b i → denser b n ≡ undoneIsDenser v t x (chainIn members k) (chainIn members (k + 1)) c
+      pub both-ended : (i : ℕ) → 32 ≤ i → (n b : Course) → Reckoning v t members (k + 1) normal n i → Reckoning v t members (k + 1) undone b i → denser b n ≡ undoneIsDenser v t (getD members k 0) (getD members (k + 1) 0) (chainIn members (k + 1)) c
       unfolding undoneIsDenser
-      both-ended f i l n b r s =
-          rw (reckoning-ended (k + 1) normal n i r l, reckoning-ended (k + 1) undone b i s l, e, u, reckon-run k c h f)
+      both-ended i l n b r s = rw (reckoning-ended (k + 1) normal n i r l, reckoning-ended (k + 1) undone b i s l, e, u)

@@ -1,13 +1,12 @@
 // Time and utility along a row of jobs (VI.3, VI.5).
 ghost use mathlib.Core.Path.{_≡_};
 ghost use mathlib.Core.List.{[]};
-ghost use Prim.Native.Nat.{_*_, _≤_, _<_};
+ghost use Prim.Native.Nat.{_+_, _*_, _≤_, _<_};
 ghost use lib.IntN.{natAbs, _+ℤ_};
-ghost use Rattle.gus.specs.Course.{passed, credited, denser};
+ghost use Rattle.gus.specs.Course.{earned, onward, denser};
 ghost use Rattle.planner.specs.Sheet.{paid, seen};
-ghost use Rattle.planner.specs.Bounds.{Small};
-ghost use Rattle.planner.specs.Asking.{Spending, Placing};
-ghost use Rattle.planner.specs.Turn.{spanAt, stepped};
+ghost use Rattle.planner.specs.Asking.{Spending, Earning, Placing};
+ghost use Rattle.planner.specs.Turn.{spanAt};
 use crate::sheet::end_of;
 use crate::sheet::hold_for;
 use crate::sheet::pieces_of;
@@ -17,15 +16,6 @@ use crate::sheet::undo_for;
 use crate::wide;
 use curve::question::worth_before;
 use gus::Course;
-
-pub(crate) fn pass(c: Course, n: u32) -> Course
-    requires { ⌜ (n ≤ 65535) × Small 31 c ⌝ }
-    ensures { λ r. ⌜ r ≡ passed n c ⌝ }
-{
-    let time = c.time + n;
-    let gain = c.gain;
-    Course { time, gain }
-}
 
 pub(crate) fn plus(gain: i32, worth: i64) -> i32
     requires { ⌜ (natAbs gain ≤ 31 * 1_000_000) × (natAbs worth ≤ 1_000_000) ⌝ }
@@ -43,24 +33,6 @@ pub(crate) fn worth_of<'a>(bytes: &'a [u8], sheet: &'a [u32; 256], job: usize, t
     let end = end_of(sheet, job);
     let pieces = pieces_of(sheet, job);
     worth_before(bytes, end, pieces, t)
-}
-
-// A job runs for n and is credited its worth at that moment.
-pub(crate) fn credit<'a>(
-    bytes: &'a [u8],
-    sheet: &'a [u32; 256],
-    job: usize,
-    t: u32,
-    n: u32,
-    c: Course,
-) -> Course
-    requires { ⌜ Spending (seen (now bytes) (now sheet)) t job n c ⌝ }
-    ensures { λ r. ⌜ r ≡ credited (paid (now (bytes .entry)) (now (sheet .entry)) job) t n c ⌝ }
-{
-    let time = c.time + n;
-    let worth = worth_of(bytes, sheet, job, t + time);
-    let gain = plus(c.gain, worth);
-    Course { time, gain }
 }
 
 // How long the member at place k takes in a mode: until what the next one requests is free; the last one to its end. No worth is asked, so
@@ -83,7 +55,32 @@ pub(crate) fn span_at<'a>(sheet: &'a [u32; 256], members: &'a [u8; 32], k: usize
     run_of(sheet, last)
 }
 
-// A job's part of n in a mode: "A normal run that is all its run time left earns its worth at that moment."
+// The gain after a job's part of n in a mode that is done once `time` has passed, in a group and in a choice alike: "A normal run that is all its
+// run time left earns its worth at that moment."
+pub(crate) fn earn<'a>(
+    bytes: &'a [u8],
+    sheet: &'a [u32; 256],
+    job: usize,
+    back: bool,
+    n: u32,
+    t: u32,
+    time: u32,
+    gain: i32,
+) -> i32
+    requires { ⌜ Earning (seen (now bytes) (now sheet)) t job time gain ⌝ }
+    ensures { λ r. ⌜ r ≡ gain +ℤ earned (seen (now (bytes .entry)) (now (sheet .entry))) job back n (t + time) ⌝ }
+{
+    if back {
+        return gain;
+    }
+    if n == run_of(sheet, job) {
+        let worth = worth_of(bytes, sheet, job, t + time);
+        return plus(gain, worth);
+    }
+    gain
+}
+
+// That part after a course that began at t.
 pub(crate) fn step<'a>(
     bytes: &'a [u8],
     sheet: &'a [u32; 256],
@@ -94,15 +91,11 @@ pub(crate) fn step<'a>(
     c: Course,
 ) -> Course
     requires { ⌜ Spending (seen (now bytes) (now sheet)) t job n c ⌝ }
-    ensures { λ r. ⌜ r ≡ stepped (seen (now (bytes .entry)) (now (sheet .entry))) t job back n c ⌝ }
+    ensures { λ r. ⌜ r ≡ onward (seen (now (bytes .entry)) (now (sheet .entry))) t job back n c ⌝ }
 {
-    if back {
-        return pass(c, n);
-    }
-    if n == run_of(sheet, job) {
-        return credit(bytes, sheet, job, t, n, c);
-    }
-    pass(c, n)
+    let time = c.time + n;
+    let gain = earn(bytes, sheet, job, back, n, t, time, c.gain);
+    Course { time, gain }
 }
 
 // Whether a gives more utility per millisecond than b.

@@ -1,6 +1,7 @@
 // Along the chain of a job, member by member (VI.3): the modes are chosen and the course is taken, in one walk.
 ghost use mathlib.Core.Path.{_≡_};
 ghost use Rattle.gus.specs.Course.{start};
+ghost use Rattle.gus.specs.Choice.{byDensity};
 ghost use Rattle.planner.specs.Sheet.{seen};
 ghost use Rattle.planner.specs.Growing.{Walking, grown, modesOut};
 use crate::choice::rolls_back;
@@ -20,8 +21,8 @@ pub(crate) fn walk<'a>(
     t: u32,
     modes: &mut [bool; 32],
 ) -> Course
-    requires { ⌜ Walking (seen (now bytes) (now sheet)) t (now members) from (now modes) ⌝ }
-    ensures { λ r. ⌜ (r ≡ grown (seen (now (bytes .entry)) (now (sheet .entry))) t (now (members .entry)) from start .course) × (now (modes .exit) ≡ modesOut (grown (seen (now (bytes .entry)) (now (sheet .entry))) t (now (members .entry)) from start)) ⌝ }
+    requires { ⌜ Walking byDensity (seen (now bytes) (now sheet)) t (now members) from (now modes) ⌝ }
+    ensures { λ r. ⌜ (r ≡ grown byDensity (seen (now (bytes .entry)) (now (sheet .entry))) t (now (members .entry)) from start .course) × (now (modes .exit) ≡ modesOut (grown byDensity (seen (now (bytes .entry)) (now (sheet .entry))) t (now (members .entry)) from start)) ⌝ }
 {
     let mut c = Course { time: 0, gain: 0 };
     let mut n: usize = 0;

@@ -22,9 +22,9 @@ use Rattle.cursor.specs.Header.{headerOf}
 use Rattle.book.specs.Format.{noEntry, noRecord, noSpan, bookOf, refusedBook, acceptedBook, recordsRead, noRecords, recordNext, recordRead, tailRead, rollbackRead, requestRead, requestedResource, requestedRollback, heldRead, entryNext, entryRead, heldResource, unheldRead, curveRead, piecesRead, pieceNext, pieceRead, startRead, signedRead, endRead}
 use Rattle.gus.specs.State.{afterAll}
 use Rattle.gus.specs.Waits.{holderFrom, chainTo, chainOf}
-use Rattle.gus.specs.Course.{passed, credited, denser, toEnd}
-use Rattle.gus.specs.Choice.{reckonOne, reckon, byDensity}
-use Rattle.gus.specs.Group.{toFree, partOf, grow, groupOf}
+use Rattle.gus.specs.Course.{earned, onward, toFree, toEnd, denser}
+use Rattle.gus.specs.Choice.{reckon, byDensity}
+use Rattle.gus.specs.Group.{partOf, grow, groupOf}
 use Rattle.gus.specs.Round.{better, consider, bestOf, Plan, stop, rounds}
 use Rattle.gus.specs.Victims.{circleFrom, circleOf, lossOf, lesser, offer, victimOf, victimsTo, victimsOf, knotTo, knotOf, settled}
 use Rattle.gus.specs.Plan.{answerTo}
@@ -86,7 +86,7 @@ case5 : Demand3 byDensity (machineFrom (bookOf five) (answerFrom (bookOf five) .
 case5 = demand3 five (rw book-read) (rw book-read (omega (arith, knot-none)))
 
 answer : answerFrom book ≡ record { victims = []; plan = record { parts = partOf 0 true 2 ∷ partOf 1 false 5 ∷ []; rounds = 1; total = pos 22; end = 7 } }
-unfolding heldFrom jobFrom worthAt worthIn answerTo victimsOf victimsTo victimOf offer lesser lossOf circleOf circleFrom settled rounds bestOf consider better groupOf grow toFree byDensity reckon reckonOne toEnd denser denserThan passed credited chainOf chainTo holderFrom afterAll upto granted ran rolledBack
+unfolding heldFrom jobFrom worthAt worthIn answerTo victimsOf victimsTo victimOf offer lesser lossOf circleOf circleFrom settled rounds bestOf consider better groupOf grow byDensity reckon toFree toEnd onward earned denser denserThan chainOf chainTo holderFrom afterAll upto granted ran rolledBack
 answer = refl
 
 -- FROM BYTES TO BYTES AND BACK: what a reader finds in an output of 430 nines after the call
@@ -136,7 +136,7 @@ senseless = refl
 
 -- WHAT DEMAND 3 RULES OUT: no parts at all, since job 1 is left and is worth 22,
 idle : Demand3 byDensity start (stop 0) → ⊥
-unfolding withVictims follow lists holdOn machineHolder worthAt worthIn groupOf grow toFree byDensity reckon reckonOne toEnd denser denserThan passed credited chainOf chainTo
+unfolding withVictims follow lists holdOn machineHolder worthAt worthIn groupOf grow byDensity reckon toFree toEnd onward earned denser denserThan chainOf chainTo
 idle d = true≢false (d .none-worthwhile 1 refl)
 
 -- an invented total,
@@ -165,5 +165,5 @@ two =
     ∷ []
 
 empty-plan : Demand3 byDensity (machineFrom (bookOf two) []) (stop 0) → ⊥
-unfolding two bookOf refusedBook acceptedBook headerOf recordsRead noRecords recordNext recordRead tailRead rollbackRead requestRead requestedResource requestedRollback heldRead entryNext entryRead heldResource unheldRead curveRead piecesRead pieceNext pieceRead startRead signedRead endRead fieldOf ruleOf readAt judged valueAt upto rollbackOk requestOk ifRequested leastRollback modeOk signedOf aroundOk lineOk withVictims follow lists holdOn machineHolder worthAt worthIn groupOf grow toFree byDensity reckon reckonOne toEnd denser denserThan passed credited chainOf chainTo
+unfolding two bookOf refusedBook acceptedBook headerOf recordsRead noRecords recordNext recordRead tailRead rollbackRead requestRead requestedResource requestedRollback heldRead entryNext entryRead heldResource unheldRead curveRead piecesRead pieceNext pieceRead startRead signedRead endRead fieldOf ruleOf readAt judged valueAt upto rollbackOk requestOk ifRequested leastRollback modeOk signedOf aroundOk lineOk withVictims follow lists holdOn machineHolder worthAt worthIn groupOf grow byDensity reckon toFree toEnd onward earned denser denserThan chainOf chainTo
 empty-plan d = true≢false (d .none-worthwhile 1 refl)

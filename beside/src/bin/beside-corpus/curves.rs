@@ -42,22 +42,30 @@ pub fn books() -> Vec<Vec<u8>> {
     books
 }
 
-/// A plan that ends after the last time that a book can name: the first job of
-/// the chain runs normally for the second alone and rolls back for the third,
-/// which comes too late to earn.
+/// A plan that ends after the last time that a book can name. For the third job
+/// alone the first runs, since that is denser; for the fourth, which takes long
+/// and comes too late to earn, the first rolls back, and then so does the second.
 fn late() -> Vec<u8> {
-    let now = LAST_TIME - 12;
-    let flat = |start: i64, value: i64| [(start, value, 0)];
-    let first = job(20, 0).rollback(5).holds(0, 2, 5);
-    let second = job(5, 0).requests(0, 5, 1).holds(1, 5, 1);
-    let third = job(60_000, 0).requests(1, 1, 1);
+    let now = LAST_TIME - 16;
+    let flat = |value: i64| [(0, value, 0)];
+    let first = job(20, 0).rollback(5).holds(0, 1, 5);
+    let second = job(20, 0).rollback(10).requests(0, 1, 1).holds(1, 1, 10);
+    let third = job(1, 0).requests(1, 1, 1).holds(2, 1, 1);
+    let fourth = job(60_000, 0).requests(2, 1, 1);
+    let rising = [
+        (now, 40, 0),
+        (now + 4, 90, 0),
+        (now + 8, 0, 0),
+        (LAST_TIME, 1_000_000, 0),
+    ];
     book_at(
         now,
-        2,
+        3,
         &[
-            first.curve(&flat(0, 40), LAST_TIME),
-            second.curve(&flat(now + 9, 50), LAST_TIME),
-            third.curve(&flat(0, 5), LAST_TIME),
+            first.curve(&flat(40), LAST_TIME),
+            second.curve(&flat(0), LAST_TIME),
+            third.curve(&rising, LAST_TIME),
+            fourth.curve(&flat(5), LAST_TIME),
         ],
     )
 }

@@ -36,7 +36,7 @@ fn granted(rollback: i64) -> Vec<u8> {
 }
 
 /// Once never is granted the holder can't turn back, even where a run to its
-/// hold's end is reckoned as a great loss.
+/// hold's end takes far longer than its rollback did.
 fn never_again() -> Vec<u8> {
     let late = |job: Job| job.until(LAST_TIME);
     let holder = job(100, 0)

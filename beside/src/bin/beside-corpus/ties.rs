@@ -67,7 +67,7 @@ fn modes() -> Vec<Vec<u8>> {
         two(6, 6, 0),
         two(6, 5, 0),
         two(6, 7, 0),
-        // Only credit in the reckoning: a hold that is not all of the run.
+        // No credit for a run that only frees the resource.
         two(3, 3, 0),
         two(3, 2, 4),
         two(3, 1, 22),
@@ -75,17 +75,32 @@ fn modes() -> Vec<Vec<u8>> {
         two(6, 7, -1),
         two(6, 20, -22),
     ];
-    // 27/9 against 24/8: a tie of unlike fractions. The holder's run is longer
-    // than its hold, so it earns nothing in the group itself.
-    books.push(book(
-        1,
-        &[
-            job(20, 3).rollback(3).holds(0, 4, 3),
-            job(5, 24).requests(0, 5, 1),
-        ],
-    ));
-    // Three in a row: the choice of the first reckons the second as normal,
-    // though the second then turns back.
+    // 27/9 against 24/8: a tie of unlike fractions, since the holder's hold is all
+    // of its run. Where its run is longer it earns nothing by running for the hold
+    // and 24/8 is denser than 24/9.
+    for run in [4, 5, 20] {
+        books.push(book(
+            1,
+            &[
+                job(run, 3).rollback(3).holds(0, 4, 3),
+                job(5, 24).requests(0, 5, 1),
+            ],
+        ));
+    }
+    // Three in a row, the first decided on by what the second would earn: nothing,
+    // unless its hold is all of its run.
+    for hold in [4, 5] {
+        books.push(book(
+            2,
+            &[
+                job(5, 30).holds(0, 5, 1),
+                job(5, 30).requests(0, 5, 1).holds(1, hold, 1),
+                job(1, 30).requests(1, 1, 1),
+            ],
+        ));
+    }
+    // And the choice of the first reckons the second as normal, though the second
+    // then turns back.
     books.push(book(
         2,
         &[

@@ -2,6 +2,8 @@
 use mathlib.Core.Path.{sym, _∙_}
 use native.Mathlib.Omega.{arith}
 use borrow.Author.Needs.{needs}
+use Rattle.gus.specs.Choice.{byDensity}
+use Rattle.invariants.specs.Fair.{by-density-fair}
 use Rattle.planner.specs.Sheet.{seen}
 use Rattle.planner.specs.Choosing.{chosen-already, chosen-last, chosen-never, chosen}
 use Rattle.planner.proofs.choice.rolls_back.Statement.{statement}
@@ -17,19 +19,19 @@ rolls-requires : tie.Need-rolls-requires
 rolls-requires c κs = omega (arith, c .wide .ensures, c .before .before .before .pre .members-below .below (c .before .before .before .args .k))
 
 returns : tie.Need-returns
-returns c = let a = c .before .before .before .before .before .args in chosen-already (seen (a .bytes .now) (a .sheet .now)) (a .t) (a .members .now) (a .k) (a .c) _ (c .before .before .wide .ensures) (sym (c .before .rolls .ensures) ∙ c .if1 .taken)
+returns c = let a = c .before .before .before .before .before .args in chosen-already byDensity (seen (a .bytes .now) (a .sheet .now)) (a .t) (a .members .now) (a .k) (a .c) (c .before .before .wide .ensures) by-density-fair (sym (c .before .rolls .ensures) ∙ c .if1 .taken)
 
 returns-2 : tie.Need-returns-2
-returns-2 c = let a = c .before .before .before .before .before .before .args in chosen-last (seen (a .bytes .now) (a .sheet .now)) (a .t) (a .members .now) (a .k) (a .c) _ (c .if2 .taken) (c .before .before .before .wide .ensures) (sym (c .before .before .rolls .ensures) ∙ c .before .if1 .left)
+returns-2 c = let a = c .before .before .before .before .before .before .args in chosen-last byDensity (seen (a .bytes .now) (a .sheet .now)) (a .t) (a .members .now) (a .k) (a .c) (c .before .before .before .wide .ensures) (c .if2 .taken) (sym (c .before .before .rolls .ensures) ∙ c .before .if1 .left)
 
 rollback-of-requires : tie.Need-rollback-of-requires
 rollback-of-requires c κs = omega (arith, c .before .before .before .wide .ensures, c .before .before .before .before .before .before .pre .members-below .below (c .before .before .before .before .before .before .args .k))
 
 returns-3 : tie.Need-returns-3
-returns-3 c = let a = c .before .before .before .before .before .before .before .before .args in chosen-never (seen (a .bytes .now) (a .sheet .now)) (a .t) (a .members .now) (a .k) (a .c) _ (c .before .before .if2 .left) (c .before .before .before .before .before .wide .ensures) (sym (c .before .before .before .before .rolls .ensures) ∙ c .before .before .before .if1 .left) (sym (c .before .rollback-of .ensures) ∙ c .if3 .taken)
+returns-3 c = let a = c .before .before .before .before .before .before .before .before .args in chosen-never byDensity (seen (a .bytes .now) (a .sheet .now)) (a .t) (a .members .now) (a .k) (a .c) (c .before .before .before .before .before .wide .ensures) by-density-fair (c .before .before .if2 .left) (sym (c .before .before .before .before .rolls .ensures) ∙ c .before .before .before .if1 .left) (sym (c .before .rollback-of .ensures) ∙ c .if3 .taken)
 
 better-undone-requires : tie.Need-better-undone-requires
-better-undone-requires c κs = record { along = c .before .before .before .before .before .before .before .before .pre; more = c .before .before .if2 .left; normal = rw (c .before .before .before .before .before .wide .ensures) at (sym (c .before .before .before .before .rolls .ensures) ∙ c .before .before .before .if1 .left) }
+better-undone-requires c κs = record { along = c .before .before .before .before .before .before .before .before .pre; more = c .before .before .if2 .left }
 
 returns-4 : tie.Need-returns-4
 returns-4 c = let a = c .before .before .before .before .before .before .before .before .before .args in chosen (seen (a .bytes .now) (a .sheet .now)) (a .t) (a .members .now) (a .k) (a .c) _ _ (c .before .before .before .if2 .left) (c .before .before .before .before .before .before .wide .ensures) (sym (c .before .before .before .before .before .rolls .ensures) ∙ c .before .before .before .before .if1 .left) (λ e. c .before .if3 .left (c .before .before .rollback-of .ensures ∙ e)) (c .better-undone .ensures)

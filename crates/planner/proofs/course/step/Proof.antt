@@ -1,43 +1,33 @@
 -- `planner::course::step` meets its contract.
-use mathlib.Core.Path.{sym, _∙_}
-use borrow.Author.Tests.{eq-eqb, ne-eqb}
+use native.Mathlib.Omega.{arith}
+use mir.Syntax.{w32}
+use mir.Val.{SFits}
+use mir.Facts.{toZ-ofZ}
 use borrow.Author.Needs.{needs}
-use Rattle.planner.specs.Turn.{stepped}
+use Rattle.gus.specs.Course.{onward}
 use Rattle.planner.proofs.course.step.Statement.{statement}
 use Rattle.planner.proofs.course.step.Tie as tie
 
-pass-requires : tie.Need-pass-requires
-pass-requires c κs = search needs
+add-time : tie.Need-add-time
+add-time c = search needs
+
+earn-requires : tie.Need-earn-requires
+earn-requires c κs =
+    let s = c .before .before .before in
+    let f : SFits w32 (s .args .c .gain) = record { sfits = c .struct-told .given .1 .0 .1 } in
+    record {
+      seeing = s .pre .step .seeing;
+      job = s .pre .step .job;
+      time-small = omega (arith, s .pre .short, s .pre .step .small .time);
+      gain-small = rw (toZ-ofZ f) (s .pre .step .small .gain);
+    }
 
 returns : tie.Need-returns
-unfolding stepped
-returns c = rw (c .before .if1 .taken) (c .pass .ensures)
-
-run-of-requires : tie.Need-run-of-requires
-run-of-requires c κs = search needs
-
-credit-requires : tie.Need-credit-requires
-credit-requires c κs = search needs
-
-returns-2 : tie.Need-returns-2
-unfolding stepped
-returns-2 c = rw (c .before .before .before .if1 .left, eq-eqb _ _ (c .before .if2 .taken ∙ c .before .before .run-of .ensures)) (c .credit .ensures)
-
-pass-requires-2 : tie.Need-pass-requires-2
-pass-requires-2 c κs = search needs
-
-returns-3 : tie.Need-returns-3
-unfolding stepped
-returns-3 c = rw (c .before .before .before .if1 .left, ne-eqb _ _ (λ e. c .before .if2 .left (e ∙ sym (c .before .before .run-of .ensures)))) (c .pass2 .ensures)
+unfolding onward
+returns c =
+    let s = c .before .before .before .before in
+    let f : SFits w32 (s .args .c .gain) = record { sfits = c .before .struct-told .given .1 .0 .1 } in
+    rw (toZ-ofZ {w = w32} {z = c .earn .result} (search needs), c .earn .ensures, toZ-ofZ f)
 
 pub step-spec : {M : Type 1} → statement M
-step-spec =
-    tie.close
-    (tie.spec
-    pass-requires
-    returns
-    run-of-requires
-    credit-requires
-    returns-2
-    pass-requires-2
-    returns-3)
+step-spec = tie.close (tie.spec add-time earn-requires returns)

@@ -4,6 +4,7 @@ use Prim.Native.Nat.{_-_}
 use native.Mathlib.Omega.{arith}
 use borrow.Author.Needs.{needs}
 use Rattle.laws.specs.Placed.{zeros-below}
+use Rattle.gus.specs.Choice.{byDensity}
 use Rattle.planner.specs.Sheet.{seen}
 use Rattle.planner.specs.Onward.{chained}
 use Rattle.planner.specs.Parting.{Parting, parting-begin, parting-next, parting-ended}
@@ -11,7 +12,7 @@ use Rattle.planner.proofs.group.group.Statement.{statement}
 use Rattle.planner.proofs.group.group.Tie as tie
 
 abbrev Inv-loop : tie.InvT-loop
-Inv-loop bytes sheet last t members from modes course parts₀ count₀ k₀ parts count k = Parting (seen bytes sheet) t members from modes parts count k
+Inv-loop bytes sheet last t members from modes course parts₀ count₀ k₀ parts count k = Parting byDensity (seen bytes sheet) t members from modes parts count k
 
 abbrev μ-loop : tie.MeasureT-loop
 μ-loop bytes sheet last t members from modes course parts₀ count₀ k₀ parts count k = 32 - k
@@ -23,7 +24,7 @@ walk-requires : tie.Need-walk-requires Inv-loop μ-loop
 walk-requires c κs = record { along = chained (c .before .before .before .before .before .pre) (c .before .before .follow .ensures); idle = refl }
 
 loop-holds : tie.Need-loop-holds Inv-loop μ-loop
-loop-holds c = parting-begin _ _ _ _ _ (c .before .before .before .follow .ensures .low) (c .walk .ensures .1)
+loop-holds c = parting-begin _ _ _ _ _ _ (c .before .before .before .follow .ensures .low) (c .walk .ensures .1)
 
 array-read-back : tie.Need-array-read-back Inv-loop μ-loop
 array-read-back c = omega (arith, c .before .loop .inv .places, c .loop-test .taken)
@@ -47,10 +48,10 @@ loop-less : tie.Need-loop-less Inv-loop μ-loop
 loop-less c = search needs
 
 loop-again : tie.Need-loop-again Inv-loop μ-loop
-loop-again c = parting-next _ _ _ _ _ (c .before .before .loop-test .taken) (c .before .before .before .loop .inv) (c .part-at .ensures)
+loop-again c = parting-next _ _ _ _ _ _ (c .before .before .loop-test .taken) (c .before .before .before .loop .inv) (c .part-at .ensures)
 
 returns : tie.Need-returns Inv-loop μ-loop
-returns c = parting-ended _ _ _ _ _ (c .before .before .before .before .before .before .before .before .args .last) (c .before .loop .inv) (c .loop-test .left) (c .before .before .before .before .before .follow .ensures .chain) (c .before .before .walk .ensures .0)
+returns c = parting-ended _ _ _ _ _ _ (c .before .before .before .before .before .before .before .before .args .last) (c .before .loop .inv) (c .loop-test .left) (c .before .before .before .before .before .follow .ensures .chain) (c .before .before .walk .ensures .0)
 
 pub group-spec : {M : Type 1} → statement M
 group-spec =

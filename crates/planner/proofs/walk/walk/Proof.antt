@@ -2,6 +2,7 @@
 use Prim.Native.Nat.{_-_}
 use native.Mathlib.Omega.{arith}
 use borrow.Author.Needs.{needs}
+use Rattle.gus.specs.Choice.{byDensity}
 use Rattle.planner.specs.Sheet.{seen}
 use Rattle.planner.specs.Onward.{along, placing, stepping}
 use Rattle.planner.specs.Bounds.{short}
@@ -11,13 +12,13 @@ use Rattle.planner.proofs.walk.walk.Statement.{statement}
 use Rattle.planner.proofs.walk.walk.Tie as tie
 
 abbrev Inv-loop : tie.InvT-loop
-Inv-loop bytes sheet members from t modes₀ c₀ n₀ k₀ modes c n k = Growing (seen bytes sheet) t members from modes c n k
+Inv-loop bytes sheet members from t modes₀ c₀ n₀ k₀ modes c n k = Growing byDensity (seen bytes sheet) t members from modes c n k
 
 abbrev μ-loop : tie.MeasureT-loop
 μ-loop bytes sheet members from t modes₀ c₀ n₀ k₀ modes c n k = 32 - k
 
 loop-holds : tie.Need-loop-holds Inv-loop μ-loop
-loop-holds c = growing-begin _ _ _ _ (c .before .pre)
+loop-holds c = growing-begin _ _ _ _ _ (c .before .pre)
 
 element-copy-out-wide : tie.Need-element-copy-out-wide Inv-loop μ-loop
 element-copy-out-wide c = search needs
@@ -47,10 +48,10 @@ loop-less : tie.Need-loop-less Inv-loop μ-loop
 loop-less c = search needs
 
 loop-again : tie.Need-loop-again Inv-loop μ-loop
-loop-again c = growing-next _ _ _ _ (c .before .before .before .before .before .before .before .before .pre .along .seeing .modest) (c .before .before .before .before .before .before .loop .inv) (record { more = c .before .before .before .before .before .loop-test .taken; job = c .before .before .before .wide .ensures; mode = c .before .before .rolls-back .ensures; span = c .before .span-at .ensures; course = c .step .ensures })
+loop-again c = growing-next _ _ _ _ _ (c .before .before .before .before .before .before .before .before .pre .along .seeing .modest) (c .before .before .before .before .before .before .loop .inv) (record { more = c .before .before .before .before .before .loop-test .taken; job = c .before .before .before .wide .ensures; mode = c .before .before .rolls-back .ensures; span = c .before .span-at .ensures; course = c .step .ensures })
 
 returns : tie.Need-returns Inv-loop μ-loop
-returns c = growing-ended _ _ _ _ (c .before .loop .inv) (c .loop-test .left)
+returns c = growing-ended _ _ _ _ _ (c .before .loop .inv) (c .loop-test .left)
 
 pub walk-spec : {M : Type 1} → statement M
 walk-spec =
