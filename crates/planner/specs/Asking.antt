@@ -29,7 +29,7 @@ pub record Spending (v : View) (t i n : ℕ) (c : Course) : Type 0 where
   pub step : Stepping v t i c
   pub short : n ≤ 65535
 
--- of job i where a choice is reckoned, after so much time and gain
+-- of job i whose part is done after so much time, with so much gained before it
 pub record Earning (v : View) (t i time : ℕ) (gain : ℤ) : Type 0 where
   pub seeing : Seeing v t
   pub job : i < 32
