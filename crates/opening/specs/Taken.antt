@@ -19,7 +19,6 @@ use Rattle.job.specs.Held.{free}
 use Rattle.job.specs.Job.{noRequest}
 use Rattle.accepted.specs.Layout.{entryPlace, requestAt, holdsAt, heldAt, curvePlace}
 use Rattle.gus.specs.State.{vacant}
-use Rattle.opening.specs.declared.State.{State}
 use Rattle.opening.specs.declared.head.Head.{Head}
 use Rattle.opening.specs.Start.{withEntry}
 
@@ -53,16 +52,16 @@ jobIn s p =
     let h = headIn s p in
     record { rolling = h .rolling; run = h .run; rollback = h .rollback; request = h .request; held = heldIn s p (h .holds) }
 
--- THE FIRST STATE: the jobs of the first n of the records that start at these places
-unfoldable pub stateIn : List ℕ → List ℕ → List ℕ → ℕ → State
-stateIn s starts holders n = record { jobs = listed 32 vacant (λ i. jobIn s (getD starts i 0)) (min n 32); holders = holders }
+-- THE JOBS of the first n of the records that start at these places
+unfoldable pub jobsIn : List ℕ → List ℕ → ℕ → List Job
+jobsIn s starts n = listed 32 vacant (λ i. jobIn s (getD starts i 0)) (min n 32)
 
 abbrev pub jobTaken : List ℕ → List ℕ → ℕ → List Job → List Job
 jobTaken s starts i jobs = set jobs i (jobIn s (getD starts i 0))
 
-pub state-made : (s starts holders : List ℕ) (n : ℕ) {jobs : List Job} {count i : ℕ} → count ≡ min n 32 → Counting (jobTaken s starts) count (replicate 32 vacant) jobs i → count ≤ i → _≡_ {A = State} (record { jobs = jobs; holders = holders }) (stateIn s starts holders n)
-unfolding stateIn listed
-state-made s starts holders n e inv le = rw (count-ended inv le, e)
+pub jobs-made : (s starts : List ℕ) (n : ℕ) {jobs : List Job} {count i : ℕ} → count ≡ min n 32 → Counting (jobTaken s starts) count (replicate 32 vacant) jobs i → count ≤ i → jobs ≡ jobsIn s starts n
+unfolding jobsIn listed
+jobs-made s starts n e inv le = rw (count-ended inv le, e)
 
 module _ (s : List ℕ) (p : ℕ) where
   pub head-there : curvePlace s p ≤ length s → headIn s p ≡ headAt s p

@@ -1,4 +1,4 @@
--- WHAT IS TAKEN FROM THE BYTES OF AN ACCEPTED BOOK IS WHAT ITS RECORDS SAY: its heads, its jobs and the first state.
+-- WHAT IS TAKEN FROM THE BYTES OF AN ACCEPTED BOOK IS WHAT ITS RECORDS SAY: its heads and its jobs.
 use Prim.Native.Nat.{ℕ, min, _+_, _<_, _≤_}
 use native.Mathlib.Omega.{arith}
 use mathlib.Core.Path.{_≡_, refl, sym, ap, _∙_}
@@ -23,7 +23,7 @@ use Rattle.gus.specs.State.{vacant, jobAt}
 use Rattle.opening.specs.declared.head.Head.{Head}
 use Rattle.opening.specs.Start.{withEntry, entryLaid, heldFrom, jobFrom, jobsFrom}
 use Rattle.opening.specs.Sound.{job-is, job-past}
-use Rattle.opening.specs.Taken.{headIn, entryLaidAt, heldIn, jobIn, stateIn, head-there}
+use Rattle.opening.specs.Taken.{headIn, entryLaidAt, heldIn, jobIn, jobsIn, head-there}
 
 -- a record without its held list and its curve
 abbrev pub headFrom : Record → Head
@@ -87,13 +87,13 @@ module _ (s : List ℕ) (accepted : bookOf s .number ≡ 0) where
       | inr l ↦ listed-past 32 vacant (λ k. jobIn s (getD starts k 0)) (b .jobs) i l ∙ sym (job-past good i l)
     ]
 
-    jobs-taken : taken ≡ jobsFrom b
-    jobs-taken =
+    all-taken : taken ≡ jobsFrom b
+    all-taken =
         let size = length-listed 32 vacant (λ k. jobIn s (getD starts k 0)) (b .jobs) in
         ext-getD vacant taken (jobsFrom b) (size ∙ sym (length-map (b .records) jobFrom ∙ good .records-size)) (λ i l. job-in i)
 
-    pub state-taken : stateIn s starts (b .holders) (b .jobs) ≡ record { jobs = jobsFrom b; holders = b .holders }
-    unfolding stateIn
-    state-taken =
+    pub jobs-taken : jobsIn s starts (b .jobs) ≡ jobsFrom b
+    unfolding jobsIn
+    jobs-taken =
         let e : min (b .jobs) 32 ≡ b .jobs = omega (arith, good .jobs) in
-        rw (e, jobs-taken)
+        rw (e, all-taken)

@@ -1,8 +1,7 @@
 // The jobs of all records, by number.
 ghost use mathlib.Core.Path.{_≡_};
 ghost use Prim.Native.Nat.{min};
-ghost use Rattle.opening.specs.Taken.{stateIn};
-use crate::State;
+ghost use Rattle.opening.specs.Taken.{jobsIn};
 use crate::record::job_at;
 use job::Held;
 use job::Job;
@@ -31,8 +30,8 @@ fn at_most_32(n: usize) -> usize
 }
 
 // Of the records that start at the first `jobs` of these places, at most 32 of them.
-pub fn open_state(s: &[u8], starts: &[usize; 33], holders: [u8; 32], jobs: usize) -> State
-    ensures { λ r. ⌜ r ≡ stateIn (now (s .entry)) (now (starts .entry)) holders jobs ⌝ }
+pub fn open_jobs(s: &[u8], starts: &[usize; 33], jobs: usize) -> [Job; 32]
+    ensures { λ r. ⌜ r ≡ jobsIn (now (s .entry)) (now (starts .entry)) jobs ⌝ }
 {
     let mut taken = [VACANT; 32];
     let count = at_most_32(jobs);
@@ -41,8 +40,5 @@ pub fn open_state(s: &[u8], starts: &[usize; 33], holders: [u8; 32], jobs: usize
         taken[i] = job_at(s, starts[i]);
         i += 1;
     }
-    State {
-        jobs: taken,
-        holders,
-    }
+    taken
 }

@@ -20,13 +20,12 @@ use Rattle.gus.specs.Victims.{victimsOf, knotOf, settled}
 use Rattle.gus.specs.Plan.{answerTo}
 use Rattle.invariants.specs.Waiting.{Ready}
 use Rattle.invariants.specs.Start.{ready-settled}
-use Rattle.invariants.specs.Settled.{holder-settled}
 use Rattle.invariants.specs.End.{Small}
 use Rattle.opening.specs.Start.{jobsFrom, payFrom}
 use Rattle.opening.specs.Small.{small-settled}
 use Rattle.opening.specs.Opened.{accepted-opened}
 use Rattle.opening.specs.Planned.{viewFrom, startFrom}
-use Rattle.opening.specs.declared.State.{State}
+use Rattle.planner.specs.declared.State.{State}
 use Rattle.planner.specs.declared.Victims.{Victims}
 use Rattle.planner.specs.declared.GroupParts.{GroupParts}
 use Rattle.planner.specs.declared.PlanParts.{PlanParts}
@@ -35,8 +34,8 @@ use Rattle.planner.specs.declared.FirstPart.{FirstPart}
 use Rattle.book.specs.declared.Judged.{Judged}
 use Rattle.book.specs.Judged.{judgedOf}
 use Rattle.accepted.specs.Spans.{starts-at}
-use Rattle.opening.specs.Taken.{stateIn}
-use Rattle.opening.specs.TakenRight.{state-taken}
+use Rattle.opening.specs.Taken.{jobsIn}
+use Rattle.opening.specs.TakenRight.{jobs-taken}
 use Rattle.planner.specs.Standing.{Accepted}
 use Rattle.planner.specs.Sheet.{seen}
 use Rattle.planner.specs.Rows.{Idle}
@@ -48,11 +47,11 @@ use Rattle.planner.specs.Listing.{listed}
 use Rattle.planner.specs.Settling.{victimsIn}
 use Rattle.planner.specs.Fitting.{Sane}
 use Rattle.planner.specs.Staged.{Rounded}
-use Rattle.planner.specs.Shown.{payIn, shown-round}
+use Rattle.planner.specs.Shown.{payIn, Shown, shown-round}
 use Rattle.planner.specs.Working.{Starting}
 use Rattle.planner.specs.Planned.{laidPlan, refusedPlan, answeredTo, plannedTo, plannedOf}
 use Rattle.planner.specs.First.{firstIn, firstOf, firstMade, firstBy, refusedFirst, one-round}
-use Rattle.planner.specs.Preparing.{Prepared, idle-from, standing, now-is, jobs-are, jobs-few, prepared-scanning, settled-is}
+use Rattle.planner.specs.Preparing.{firstState, Prepared, idle-from, standing, now-is, jobs-are, jobs-few, prepared-scanning, settled-is, kept-first}
 
 -- the answer that the victims and the rounds make
 abbrev pub planIn : Victims → PlanParts → Planned
@@ -74,9 +73,9 @@ pub record Chosen (s : List ℕ) (j : Judged) (v : Victims) : Type 0 where
   pub victims : v ≡ listed (viewFrom (bookOf s)) (bookOf s .now)
 
 -- a book without a knot, prepared for its first round
-pub record Cleared (s : List ℕ) (j : Judged) (sheet asks : List ℕ) (v : Victims) : Type 0 where
+pub record Cleared (s : List ℕ) (j : Judged) (sheet : List ℕ) (v : Victims) : Type 0 where
   pub accepted : Accepted s j
-  pub prepared : Prepared s sheet asks v
+  pub prepared : Prepared s sheet v
   pub free : 32 ≤ v .knot
 
 -- the first part of a round's group
@@ -115,20 +114,30 @@ module _ (s : List ℕ) {j : Judged} (e : j ≡ judgedOf s) where
 pub first-is : (s : List ℕ) {r : FirstPart} → r ≡ firstBy byDensity s → r ≡ firstIn (plannedOf s)
 first-is s e = e ∙ sym (one-round byDensity 31 s)
 
--- what the rounds start from
-abbrev pub firstState : List ℕ → State
-firstState s = record { jobs = startFrom (bookOf s); holders = bookOf s .holders }
-
 -- the jobs opened where their records stand, and then settled
-pub state-made : (s : List ℕ) {j : Judged} → Accepted s j → {v : Victims} → v ≡ listed (viewFrom (bookOf s)) (bookOf s .now) → {opened state : State} → opened ≡ stateIn s (j .starts) (j .holders) (j .jobs) → state ≡ record { jobs = settled (opened .jobs) (victimsIn v); holders = opened .holders } → state ≡ firstState s
-state-made s {j} a {v} e {opened} o q =
+pub state-made : (s : List ℕ) {j : Judged} → Accepted s j → {v : Victims} → v ≡ listed (viewFrom (bookOf s)) (bookOf s .now) → {jobs : List Job} {sheet : List ℕ} {state : State}
+    → jobs ≡ jobsIn s (j .starts) (j .jobs)
+    → state ≡ record { jobs = settled jobs (victimsIn v); holders = j .holders; sheet = sheet }
+    → state ≡ record { jobs = startFrom (bookOf s); holders = bookOf s .holders; sheet = sheet }
+state-made s {j} a {v} e {jobs} {sheet} o q =
     let w = standing s a in
     let b : Book = bookOf s in
-    let opened-is : opened ≡ record { jobs = jobsFrom b; holders = b .holders } = o ∙ (λ k. stateIn s (w .starts-are k) (w .holders-are k) (w .jobs-are k)) ∙ state-taken s (a .accepted) _ (starts-at s (a .accepted)) in
-    q ∙ ap (λ (x : State). record { jobs = settled (x .jobs) (victimsIn v); holders = x .holders }) opened-is
-    ∙ ap (λ (js : List Job). record { jobs = js; holders = b .holders }) (settled-is s a e)
+    let opened : jobs ≡ jobsFrom b = o ∙ (λ k. jobsIn s (w .starts-are k) (w .jobs-are k)) ∙ jobs-taken s (a .accepted) _ (starts-at s (a .accepted)) in
+    let settled-jobs : settled jobs (victimsIn v) ≡ startFrom b = ap (λ (js : List Job). settled js (victimsIn v)) opened ∙ settled-is s a e in
+    q ∙ (λ k. record { jobs = settled-jobs k; holders = w .holders-are k; sheet = sheet })
 
-module _ (s : List ℕ) {j : Judged} (a : Accepted s j) {sheet asks : List ℕ} {v : Victims} (p : Prepared s sheet asks v) where
+-- an accepted book without a knot may be planned
+module _ (s : List ℕ) (accepted : bookOf s .number ≡ 0) (free : 32 ≤ knotOf (viewFrom (bookOf s)) (bookOf s .now)) where
+  pub first-ready : Ready (startFrom (bookOf s))
+  first-ready = ready-settled (payFrom (bookOf s)) (bookOf s .now) (accepted-opened s accepted .sound) free
+
+  pub first-small : Small (startFrom (bookOf s))
+  first-small = small-settled (accepted-opened s accepted .small) (victimsOf (viewFrom (bookOf s)) (bookOf s .now))
+
+  pub first-sane : Sane (payIn s) (firstState s)
+  first-sane = record { ready = first-ready; small = first-small; worth = accepted-opened s accepted .worth }
+
+module _ (s : List ℕ) {j : Judged} (a : Accepted s j) {sheet : List ℕ} {v : Victims} (p : Prepared s sheet v) where
   abbrev b : Book
   b = bookOf s
 
@@ -152,44 +161,40 @@ module _ (s : List ℕ) {j : Judged} (a : Accepted s j) {sheet asks : List ℕ} 
     free = rw knot-is at none
 
     starts : Ready (startFrom b)
-    starts = ready-settled (payFrom b) (b .now) (accepted-opened s (a .accepted) .sound) free
+    starts = first-ready s (a .accepted) free
 
     small : Small (startFrom b)
-    small = small-settled (accepted-opened s (a .accepted) .small) (victimsOf (viewFrom b) (b .now))
+    small = first-small s (a .accepted) free
 
     idle : Idle (b .jobs) (startFrom b)
     idle = idle-settled (idle-from s (a .accepted)) (victimsOf (viewFrom b) (b .now))
 
-    sane : Sane (payIn s) (record { jobs = startFrom b; holders = b .holders })
-    sane =
-        let o = accepted-opened s (a .accepted) in
-        record {
-          ready = starts;
-          small = small;
-          holding = record { size = o .holders-size; agree = λ r h. o .holders r ∙ sym (holder-settled (jobsFrom b) (victimsOf (viewFrom b) (b .now)) r) };
-          worth = o .worth;
-        }
+    shown : Shown s (startFrom b) sheet
+    shown = rw (p .sheet-is none) (kept-first s (a .accepted) .rows)
 
     -- the first round
     pub round-scanning : Scanning (seen s sheet) (j .jobs) (j .now)
-    round-scanning = prepared-scanning s a (starts .sound) small idle (p .rows none)
+    round-scanning = prepared-scanning s a (starts .sound) small idle shown
 
     pub first-found : {g : GroupParts} {r : FirstPart} → g ≡ laidOut (roundOf byDensity (seen s sheet) (j .now)) → r ≡ firstFrom g → r ≡ firstBy byDensity s
     unfolding firstBy firstMade
     first-found {g} {r} e q =
-        let h = shown-round s (a .accepted) (starts .sound) (p .rows none) byDensity (j .now) e in
+        let h = shown-round s (a .accepted) (starts .sound) shown byDensity (j .now) e in
         rw (le-ltb 0 (b .number) accepted, le-ltb (knotOf (viewFrom b) (b .now)) 32 free, firstBy)
         (q ∙ ap firstFrom h ∙ laid-first (roundOf byDensity (viewOf (payIn s) (startFrom b)) (j .now)) ∙ ap (λ (t : ℕ). firstOf (roundOf byDensity (viewOf (payIn s) (startFrom b)) t .parts)) (now-is s a))
 
     -- the rounds
-    module _ {state : State} (state-is : state ≡ firstState s) where
-      pub rounds-start : Starting s state sheet asks (j .jobs) (j .now)
-      rounds-start = rw state-is (record {
+    module _ {state : State} (state-is : state ≡ record { jobs = startFrom b; holders = b .holders; sheet = sheet }) where
+      first : state ≡ firstState s
+      first = state-is ∙ ap (λ (t : List ℕ). record { jobs = startFrom b; holders = b .holders; sheet = t }) (p .sheet-is none)
+
+      pub rounds-start : Starting s state (j .jobs) (j .now)
+      rounds-start = rw first (record {
         accepted = a .accepted;
-        sane = sane;
+        sane = first-sane s (a .accepted) free;
         idle = rw (jobs-are s a) idle;
         few = jobs-few s a;
-        rows = p .rows none;
+        kept = kept-first s (a .accepted);
         now = omega (arith, now-is s a, accepted-opened s (a .accepted) .now);
       })
 

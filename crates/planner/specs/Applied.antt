@@ -7,12 +7,12 @@ use lib.Dec.{ltb, eqb}
 use lib.ListN.{length, getD}
 use Rattle.laws.specs.Each.{mapIx, at-mapIx}
 use Rattle.job.specs.declared.Held.{Held}
-use Rattle.job.specs.declared.Job.{Job}
 use Rattle.job.specs.Held.{free}
 use Rattle.gus.specs.declared.Part.{Part}
 use Rattle.gus.specs.State.{workedBy, after, afterAll}
 use Rattle.gus.specs.Waits.{nobody}
-use Rattle.opening.specs.declared.State.{State}
+use Rattle.planner.specs.declared.State.{State}
+use Rattle.planner.specs.Putting.{reworked}
 
 -- who holds a resource after a part of a job that then has this hold of it:
 -- that job where it has one; nobody where it had one and gave it up; else whoever held it
@@ -27,14 +27,16 @@ abbrev pub afterPart : State → Part → State
 afterPart s p = record {
   jobs = after (s .jobs) p;
   holders = holdersAfter (p .job) (workedBy (s .jobs) p .held) (s .holders);
+  sheet = reworked (p .job) (workedBy (s .jobs) p) (s .sheet);
 }
 
-unfoldable pub holdersAll : List Job → List Part → List ℕ → List ℕ
-holdersAll js [] holders = holders
-holdersAll js (p ∷ ps) holders = holdersAll (after js p) ps (holdersAfter (p .job) (workedBy js p .held) holders)
+-- a row of parts, one after the other; its jobs are `afterAll`'s
+unfoldable pub inTurn : State → List Part → State
+inTurn s [] = s
+inTurn s (p ∷ ps) = inTurn (afterPart s p) ps
 
 abbrev pub afterParts : State → List Part → State
-afterParts s ps = record { jobs = afterAll (s .jobs) ps; holders = holdersAll (s .jobs) ps (s .holders) }
+afterParts s ps = record { jobs = afterAll (s .jobs) ps; holders = inTurn s ps .holders; sheet = inTurn s ps .sheet }
 
 -- what an array of parts has past its end
 abbrev pub noPart : Part

@@ -29,17 +29,15 @@ use Rattle.invariants.specs.Picked.{picked}
 use Rattle.invariants.specs.End.{Small}
 use Rattle.opening.specs.Modest.{Modest, modest}
 use Rattle.opening.specs.Small.{small-after-all}
-use Rattle.opening.specs.declared.State.{State}
+use Rattle.planner.specs.declared.State.{State}
 use Rattle.planner.specs.Round.{round-won, some-won, small-round}
 use Rattle.planner.specs.Applied.{noPart}
-use Rattle.planner.specs.Holding.{Holding, holding-all}
 use Rattle.planner.specs.Stage.{Stage, opening, joinedBy, roundAt}
 
--- jobs as they stand between two rounds, and the holders that the code keeps of them
+-- jobs as they stand between two rounds
 pub record Sane (pay : Pay) (s : State) : Type 0 where
   pub ready : Ready (s .jobs)
   pub small : Small (s .jobs)
-  pub holding : Holding s
   pub worth : (i t : ℕ) → natAbs (pay i t) ≤ 1000000
 
 -- each round ends a job, adds at most 32 parts that lower the burden, 32 worths and 32 times
@@ -99,7 +97,6 @@ module _ {way : Way} (fair : Fair way) {pay : Pay} {s : Stage} (f : Fitting pay 
         jobs = record {
           ready = replay-ready (runs-replay runs) y;
           small = small-after-all (f .jobs .small) (g .parts);
-          holding = holding-all (runs-replay runs) (y .sound) (f .jobs .holding);
           worth = f .jobs .worth;
         };
         room = omega (arith, f .room, runs-burden runs (y .sound));

@@ -13,7 +13,7 @@ use Rattle.cursor.specs.Field.{valueAt, valueIn}
 use Rattle.cursor.specs.Value.{value-there}
 use Rattle.job.specs.declared.Held.{Held}
 use Rattle.job.specs.declared.Job.{Job}
-use Rattle.job.specs.Job.{heldAt}
+use Rattle.job.specs.Job.{noJob, heldAt}
 use Rattle.book.specs.declared.Book.{Book}
 use Rattle.book.specs.Format.{bookOf}
 use Rattle.book.specs.Starts.{start-is}
@@ -38,11 +38,11 @@ use Rattle.planner.specs.Rows.{asked}
 use Rattle.planner.specs.Unheld.{held-nobody}
 use Rattle.planner.specs.Putting.{put, linked, owned}
 use Rattle.planner.specs.Row.{Row, RowOf, row-same, put-same, put-beside, put-row, linked-row, owned-row, linked-own, owned-own}
-use Rattle.planner.specs.RowLaid.{waitingRow, rowLaid, waiting-none, waiting-free, waiting-held}
+use Rattle.planner.specs.RowLaid.{waitingRow, rowLaid, vacantRow, waiting-none, waiting-free, waiting-held}
 
 -- a turn that makes a row of zeros the row of its job, and leaves every other row
 pub record Turn (s : List ℕ) (i : ℕ) (f : List ℕ → List ℕ) : Type 0 where
-  pub own : {t : List ℕ} → Row vacant 0 0 0 noPlace i t → RowOf (jobsFrom (bookOf s)) (placeFor s (bookOf s)) i (f t)
+  pub own : {t : List ℕ} → Row noJob 0 0 0 noPlace i t → RowOf (jobsFrom (bookOf s)) (placeFor s (bookOf s)) i (f t)
   pub others : {j : Job} {w h u k : ℕ} {place : Place} {t : List ℕ} → k ≢ i → Row j w h u place k t → Row j w h u place k (f t)
 
 module _ {s starts holders : List ℕ} {n : ℕ} (st : Standing s starts holders n) where
@@ -155,14 +155,14 @@ module _ {s starts holders : List ℕ} {n : ℕ} (st : Standing s starts holders
     unfolding rowLaid jobIn
     row-turn = record {
       own = λ row. waiting-right (own row);
-      others = λ ne row. waiting-other ne (owned-row i _ _ _ ne (put-row 7 i _ ne (omega arith) (put-row 6 i _ ne (omega arith) row)));
+      others = λ ne row. waiting-other ne (owned-row i _ _ _ _ ne (put-row 7 i _ ne (omega arith) (put-row 6 i _ ne (omega arith) row)));
     }
       where
-        own : {t : List ℕ} → Row vacant 0 0 0 noPlace i t → Row (jobIn s p) nobody 0 0 (places i) i (owned i (jobIn s p .run) (jobIn s p .rollback) (jobIn s p .rolling) (put 7 i pieces (put 6 i end t)))
+        own : {t : List ℕ} → Row noJob 0 0 0 noPlace i t → Row (jobIn s p) nobody 0 0 (places i) i (owned i (jobIn s p .run) (jobIn s p .rollback) (jobIn s p .rolling) (jobIn s p .request .resource) (put 7 i pieces (put 6 i end t)))
         own {t} row =
             let t′ : List ℕ = put 6 i end t in
-            let size : length t′ ≡ 256 = length-set t (8 * i + 6) end ∙ row .size in
-            owned-own (put 7 i pieces t′) (jobIn s p) (length-set t′ (8 * i + 7) pieces ∙ size) below
+            let size : length t′ ≡ 288 = length-set t (9 * i + 6) end ∙ row .size in
+            owned-own (put 7 i pieces t′) (jobIn s p) (length-set t′ (9 * i + 7) pieces ∙ size) below
             (put-beside t′ 0 7 i pieces 6 (λ e. omega arith) ∙ put-same t 0 6 i end (row .size) below (omega arith) ∙ end-is)
             (put-same t′ 0 7 i pieces size below (omega arith) ∙ pieces-is)
 
@@ -176,25 +176,29 @@ module _ {s starts holders : List ℕ} {n : ℕ} (st : Standing s starts holders
         ]
 
   -- a place without a job
-  pub vacant-turn : (i : ℕ) → b .jobs ≤ i → i < 32 → Turn s i (put 4 i nobody)
+  pub vacant-turn : (i : ℕ) → b .jobs ≤ i → i < 32 → Turn s i (vacantRow i)
+  unfolding vacantRow
   vacant-turn i past l = record {
     own = λ {t} row. unlinked (sym (job-past good i past)) (waits-none sound i (omega (arith, ap (λ (j : Job). j .request .resource) (job-past good i past)))) (emptied row);
-    others = λ ne row. put-row 4 i _ ne (omega arith) row;
+    others = λ ne row. put-row 4 i _ ne (omega arith) (put-row 8 i _ ne (omega arith) row);
   }
     where
-      emptied : {t : List ℕ} → Row vacant 0 0 0 noPlace i t → Row vacant nobody 0 0 (places i) i (put 4 i nobody t)
+      emptied : {t : List ℕ} → Row noJob 0 0 0 noPlace i t → Row vacant nobody 0 0 (places i) i (put 4 i nobody (put 8 i nobody t))
       emptied {t} row =
-          let kept : (k : ℕ) → k ≢ 4 → cell k (put 4 i nobody t) 0 i ≡ cell k t 0 i = λ k a. put-beside t 0 4 i nobody k a in
+          let t′ : List ℕ = put 8 i nobody t in
+          let size : length t′ ≡ 288 = length-set t (9 * i + 8) nobody ∙ row .size in
+          let kept : (k : ℕ) → k ≢ 4 → k ≢ 8 → cell k (put 4 i nobody t′) 0 i ≡ cell k t 0 i = λ k a d. put-beside t′ 0 4 i nobody k a ∙ put-beside t 0 8 i nobody k d in
           record {
-            size = length-set t (8 * i + 4) nobody ∙ row .size;
-            run = kept 0 (λ e. omega arith) ∙ row .run;
-            rollback = kept 1 (λ e. omega arith) ∙ row .rollback;
-            hold-is = kept 2 (λ e. omega arith) ∙ row .hold-is;
-            undo-is = kept 3 (λ e. omega arith) ∙ row .undo-is;
-            waits-is = put-same t nobody 4 i nobody (row .size) l (omega arith);
-            rolling = ap (λ (x : ℕ). eqb x 1) (kept 5 (λ e. omega arith)) ∙ row .rolling;
-            end = kept 6 (λ e. omega arith) ∙ row .end ∙ rw (le-ltb i (b .jobs) past);
-            pieces = kept 7 (λ e. omega arith) ∙ row .pieces ∙ rw (le-ltb i (b .jobs) past);
+            size = length-set t′ (9 * i + 4) nobody ∙ size;
+            run = kept 0 (λ e. omega arith) (λ e. omega arith) ∙ row .run;
+            rollback = kept 1 (λ e. omega arith) (λ e. omega arith) ∙ row .rollback;
+            hold-is = kept 2 (λ e. omega arith) (λ e. omega arith) ∙ row .hold-is;
+            undo-is = kept 3 (λ e. omega arith) (λ e. omega arith) ∙ row .undo-is;
+            waits-is = put-same t′ nobody 4 i nobody size l (omega arith);
+            rolling = ap (λ (x : ℕ). eqb x 1) (kept 5 (λ e. omega arith) (λ e. omega arith)) ∙ row .rolling;
+            end = kept 6 (λ e. omega arith) (λ e. omega arith) ∙ row .end ∙ rw (le-ltb i (b .jobs) past);
+            pieces = kept 7 (λ e. omega arith) (λ e. omega arith) ∙ row .pieces ∙ rw (le-ltb i (b .jobs) past);
+            asks = put-beside t′ nobody 4 i nobody 8 (λ e. omega arith) ∙ put-same t nobody 8 i nobody (row .size) l (omega arith);
           }
 
 -- the record of job i is there, in a book of which every place is a number of two bytes

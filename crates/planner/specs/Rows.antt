@@ -2,13 +2,13 @@
 use mathlib.Core.Path.{_≡_}
 use mathlib.Core.List.{List}
 use Prim.Native.Nat.{ℕ, _<_, _≤_}
-use lib.ListN.{length, getD}
+use lib.ListN.{length}
 use Rattle.job.specs.declared.Job.{Job}
 use Rattle.job.specs.Job.{holdOf, rollbackOf}
 use Rattle.gus.specs.State.{jobAt}
-use Rattle.gus.specs.Waits.{nobody, waitsFor}
+use Rattle.gus.specs.Waits.{waitsFor}
 use Rattle.planner.specs.Places.{Place}
-use Rattle.planner.specs.Sheet.{runIn, rollbackIn, holdIn, undoIn, waitsIn, rollingIn, endIn, piecesIn}
+use Rattle.planner.specs.Sheet.{runIn, rollbackIn, holdIn, undoIn, waitsIn, rollingIn, endIn, piecesIn, asksIn}
 
 -- what job i asks for
 abbrev pub asked : List Job → ℕ → ℕ
@@ -19,10 +19,9 @@ pub record Idle (n : ℕ) (js : List Job) : Type 0 where
   pub run : (i : ℕ) → n ≤ i → jobAt js i .run ≡ 0
   pub request : (i : ℕ) → n ≤ i → 32 ≤ asked js i
 
--- THE SHEET IS THE ROWS OF THE JOBS, with the places of their curves; beside it stands what each job asks for
-pub record Rows (js : List Job) (places : ℕ → Place) (sheet asks : List ℕ) : Type 0 where
-  pub size : length sheet ≡ 256
-  pub asks-size : length asks ≡ 32
+-- THE SHEET IS THE ROWS OF THE JOBS, with the places of their curves
+pub record Rows (js : List Job) (places : ℕ → Place) (sheet : List ℕ) : Type 0 where
+  pub size : length sheet ≡ 288
   pub run : (i : ℕ) → i < 32 → runIn sheet i ≡ jobAt js i .run
   pub rollback : (i : ℕ) → i < 32 → rollbackIn sheet i ≡ jobAt js i .rollback
   pub hold : (i : ℕ) → i < 32 → holdIn sheet i ≡ holdOf (jobAt js (waitsFor js i)) (asked js i)
@@ -31,4 +30,4 @@ pub record Rows (js : List Job) (places : ℕ → Place) (sheet asks : List ℕ)
   pub rolling : (i : ℕ) → i < 32 → rollingIn sheet i ≡ jobAt js i .rolling
   pub end : (i : ℕ) → i < 32 → endIn sheet i ≡ places i .end
   pub pieces : (i : ℕ) → i < 32 → piecesIn sheet i ≡ places i .pieces
-  pub request : (i : ℕ) → i < 32 → getD asks i nobody ≡ asked js i
+  pub asks : (i : ℕ) → i < 32 → asksIn sheet i ≡ asked js i

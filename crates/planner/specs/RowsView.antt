@@ -46,9 +46,9 @@ module _ {js : List Job} (s : Sound js) where
     waits = λ i l. waits-none s i (idle .request i l);
   }
 
-  module _ (bytes : List ℕ) (pay : Pay) {places : ℕ → Place} {sheet asks : List ℕ} (rows : Rows js places sheet asks) where
+  module _ (bytes : List ℕ) (pay : Pay) {places : ℕ → Place} {sheet : List ℕ} (rows : Rows js places sheet) where
     past-cell : (k z i : ℕ) → 32 ≤ i → cell k sheet z i ≡ z
-    past-cell k z i l = List·getD-eq-default sheet z {n = 8 * i + k} (omega (arith, rows .size))
+    past-cell k z i l = List·getD-eq-default sheet z {n = 9 * i + k} (omega (arith, rows .size))
 
     pub rows-view : ((i t : ℕ) → i < 32 → worthBefore bytes (places i .end) (places i .pieces) t ≡ pay i t) → ((i t : ℕ) → 32 ≤ i → pay i t ≡ pos 0) → seen bytes sheet ≡ viewOf pay js
     rows-view worths nothing = λ d. record {

@@ -1,4 +1,4 @@
--- THE SHEET AFTER THE VICTIMS: their rows, written one after the other, are the rows of the settled jobs.
+-- The rows of the victims, written one after the other.
 use mathlib.Core.Path.{_≡_, refl, sym, ap, _∙_}
 use mathlib.Core.Logic.{_≢_}
 use mathlib.Core.List.{List, [], _∷_}
@@ -23,17 +23,8 @@ use Rattle.planner.specs.Settling.{victimsIn, Handed, victims-long, vict
 use Rattle.planner.specs.Places.{Place}
 use Rattle.planner.specs.Rows.{asked, Rows}
 use Rattle.planner.specs.Unheld.{held-nobody}
-use Rattle.planner.specs.Putting.{sentRow}
+use Rattle.planner.specs.Putting.{sentRow, sentRows}
 use Rattle.planner.specs.Row.{RowOf, row-same, sent-row, sent-own, row-of, rows-of}
-
--- f for each of these numbers, one after the other
-unfoldable pub inTurn : {A : Type 0} → (ℕ → A → A) → List ℕ → A → A
-inTurn f [] a = a
-inTurn f (i ∷ is) a = inTurn f is (f i a)
-
--- job i asks for nothing
-abbrev pub withdrawn : ℕ → List ℕ → List ℕ
-withdrawn i asks = set asks i nobody
 
 abbrev sentAt : List Job → ℕ → List Job
 sentAt js a = set js a (sentBack (jobAt js a))
@@ -58,7 +49,7 @@ module _ (js : List Job) (size : length js ≡ 32) (none : holderOf js nobody �
   holder-back : (r : ℕ) → holderOf (sentAt js a) r ≡ holderOf js r
   holder-back r = holder-same js (sentAt js a) r 0 (back-size ∙ sym size) (λ k. ap (λ (l : List Held). getD l r free .hold) (back-held k))
 
-  module _ {places : ℕ → Place} {sheet asks : List ℕ} (rows : Rows js places sheet asks) where
+  module _ {places : ℕ → Place} {sheet : List ℕ} (rows : Rows js places sheet) where
     row-other : (i : ℕ) → i < 32 → i ≢ a → RowOf (sentAt js a) places i (sentRow a sheet)
     row-other i l ne = row-same (sent-row a ne (row-of rows i l)) (sym o) (sym q) (ap (λ (h : Held). h .hold) (sym held)) (ap (λ (h : Held). h .rollback) (sym held))
       where
@@ -83,54 +74,33 @@ module _ (js : List Job) (size : length js ≡ 32) (none : holderOf js nobody �
         held : heldAt (jobAt (sentAt js a) (waitsFor (sentAt js a) a)) (asked (sentAt js a) a) ≡ free
         held = ap (λ (x : ℕ). heldAt (jobAt (sentAt js a) x) (asked (sentAt js a) a)) q ∙ held-nobody (sentAt js a) back-size (asked (sentAt js a) a)
 
-    rows-back : Rows (sentAt js a) places (sentRow a sheet) (withdrawn a asks)
-    rows-back = rows-of (length-set asks a nobody ∙ rows .asks-size) request (λ i l. elim (ℕ-discrete i a) [ yes e ↦ rw e row-own | no ne ↦ row-other i l ne ])
-      where
-        request : (i : ℕ) → i < 32 → getD (withdrawn a asks) i nobody ≡ asked (sentAt js a) i
-        request i l = elim (ℕ-discrete i a) [
-          | yes e ↦ rw e (getD-set-same asks a nobody nobody (omega (arith, rows .asks-size)) ∙ ap (λ (j : Job). j .request .resource) (sym back-same))
-          | no ne ↦ getD-set-other asks a i nobody nobody ne ∙ rows .request i l ∙ ap (λ (j : Job). j .request .resource) (sym (back-other i ne))
-        ]
+    rows-back : Rows (sentAt js a) places (sentRow a sheet)
+    rows-back = rows-of (λ i l. elim (ℕ-discrete i a) [ yes e ↦ rw e row-own | no ne ↦ row-other i l ne ])
 
-rows-settled : {js : List Job} {places : ℕ → Place} {sheet asks : List ℕ} → length js ≡ 32 → holderOf js nobody ≡ nobody → (is : List ℕ) → ((k : ℕ) → k < length is → getD is k 0 < 32) → Rows js places sheet asks → Rows (settled js is) places (inTurn sentRow is sheet) (inTurn withdrawn is asks)
-unfolding settled inTurn
+-- THE SHEET AFTER THE VICTIMS is the rows of the settled jobs
+pub rows-settled : {js : List Job} {places : ℕ → Place} {sheet : List ℕ} → length js ≡ 32 → holderOf js nobody ≡ nobody → (is : List ℕ) → ((k : ℕ) → k < length is → getD is k 0 < 32) → Rows js places sheet → Rows (settled js is) places (sentRows is sheet)
+unfolding settled sentRows
 rows-settled size none [] all rows = rows
 rows-settled {js} size none (i ∷ is) all rows =
     let l : i < 32 = all 0 (omega arith) in
     rows-settled (back-size js size none i l) (holder-back js size none i l nobody ∙ none) is (λ k h. all (suc k) (omega arith)) (rows-back js size none i l rows)
 
--- the sheet and the requests are kept up to date by the victims' going into rollback
-pub record KeptSettled (v : Victims) (sheet asks sheet′ asks′ : List ℕ) : Type 0 where
-  pub rows : {js : List Job} {places : ℕ → Place} → Sound js → Rows js places sheet asks → Rows (settled js (victimsIn v)) places sheet′ asks′
-
 -- The loop's whole invariant: what is left of the victims leads to where all of them lead.
-pub record Sending (v : Victims) (sheet₀ asks₀ sheet asks : List ℕ) (k : ℕ) : Type 0 where
+pub record Sending (v : Victims) (sheet₀ sheet : List ℕ) (k : ℕ) : Type 0 where
   pub within : k ≤ v .count
-  pub sent : inTurn sentRow (drop k (victimsIn v)) sheet ≡ inTurn sentRow (victimsIn v) sheet₀
-  pub asking : inTurn withdrawn (drop k (victimsIn v)) asks ≡ inTurn withdrawn (victimsIn v) asks₀
+  pub sent : sentRows (drop k (victimsIn v)) sheet ≡ sentRows (victimsIn v) sheet₀
 
-module _ {v : Victims} {sheet₀ asks₀ : List ℕ} (h : Handed v) where
-  pub sending-begin : Sending v sheet₀ asks₀ sheet₀ asks₀ 0
-  sending-begin = record { within = omega arith; sent = refl; asking = refl }
+module _ {v : Victims} {sheet₀ : List ℕ} (h : Handed v) where
+  pub sending-begin : Sending v sheet₀ sheet₀ 0
+  sending-begin = record { within = omega arith; sent = refl }
 
-  module _ {sheet asks : List ℕ} {k : ℕ} (s : Sending v sheet₀ asks₀ sheet asks k) where
-    pub sending-next : {sheet′ : List ℕ} → k < v .count → sheet′ ≡ sentRow (getD (v .list) k 0) sheet → Sending v sheet₀ asks₀ sheet′ (withdrawn (getD (v .list) k 0) asks) (k + 1)
-    unfolding inTurn
-    sending-next l e = record {
-      within = omega arith;
-      sent = rw (add-one, e) (rw (victims-next h k l) at (s .sent));
-      asking = rw add-one (rw (victims-next h k l) at (s .asking));
-    }
+  module _ {sheet : List ℕ} {k : ℕ} (s : Sending v sheet₀ sheet k) where
+    pub sending-next : {sheet′ : List ℕ} → k < v .count → sheet′ ≡ sentRow (getD (v .list) k 0) sheet → Sending v sheet₀ sheet′ (k + 1)
+    unfolding sentRows
+    sending-next l e = record { within = omega arith; sent = rw (add-one, e) (rw (victims-next h k l) at (s .sent)) }
 
-    pub sending-ended : v .count ≤ k → KeptSettled v sheet₀ asks₀ sheet asks
-    unfolding inTurn
+    pub sending-ended : v .count ≤ k → sheet ≡ sentRows (victimsIn v) sheet₀
+    unfolding sentRows
     sending-ended l =
         let e : k ≡ length (victimsIn v) = omega (arith, victims-long h, s .within) in
-        let a : sheet ≡ inTurn sentRow (victimsIn v) sheet₀ = rw (e, drop-length (victimsIn v)) at (s .sent) in
-        let b : asks ≡ inTurn withdrawn (victimsIn v) asks₀ = rw (e, drop-length (victimsIn v)) at (s .asking) in
-        record {
-          rows = λ sound r. rw (a, b) (rows-settled (sound .size) (holder-past sound nobody (omega arith)) (victimsIn v) jobs r);
-        }
-      where
-        jobs : (i : ℕ) → i < length (victimsIn v) → getD (victimsIn v) i 0 < 32
-        jobs i m = omega (arith, getD-take (v .count) (v .list) i 0 (omega (arith, victims-long h)), h .jobs i)
+        rw (e, drop-length (victimsIn v)) at (s .sent)

@@ -1,4 +1,4 @@
--- THE SHEET: what a round asks of the jobs, in one array with a row of eight numbers for each job.
+-- THE SHEET: what a round asks of the jobs, in one array with a row of nine numbers for each job.
 use mathlib.Core.Bool.{Bool, _&&_, cond}
 use mathlib.Core.List.{List}
 use Prim.Native.Nat.{ℕ, _+_, _*_}
@@ -11,7 +11,7 @@ use Rattle.gus.specs.View.{Pay, View}
 
 -- number k of job i's row; past the last row it is z
 abbrev pub cell : ℕ → List ℕ → ℕ → ℕ → ℕ
-cell k sheet z i = getD sheet (8 * i + k) z
+cell k sheet z i = getD sheet (9 * i + k) z
 
 -- run time left and rollback time
 abbrev pub runIn : List ℕ → ℕ → ℕ
@@ -41,6 +41,10 @@ endIn sheet = cell 6 sheet 0
 
 abbrev pub piecesIn : List ℕ → ℕ → ℕ
 piecesIn sheet = cell 7 sheet 0
+
+-- what it requests: a resource, or 255
+abbrev pub asksIn : List ℕ → ℕ → ℕ
+asksIn sheet = cell 8 sheet nobody
 
 -- what finishing a job is worth, by its curve in the lent bytes; past the last row nobody finishes
 abbrev pub paid : List ℕ → List ℕ → Pay

@@ -22,10 +22,10 @@ abbrev pub payIn : List ℕ → Pay
 payIn bytes = payFrom (bookOf bytes)
 
 -- the rows of these jobs, with the book's curves
-abbrev pub Shown : List ℕ → List Job → List ℕ → List ℕ → Type 0
-Shown bytes js sheet asks = Rows js (placeFor bytes (bookOf bytes)) sheet asks
+abbrev pub Shown : List ℕ → List Job → List ℕ → Type 0
+Shown bytes js sheet = Rows js (placeFor bytes (bookOf bytes)) sheet
 
-module _ (bytes : List ℕ) (a : bookOf bytes .number ≡ 0) {js : List Job} {sheet asks : List ℕ} (sound : Sound js) (rows : Shown bytes js sheet asks) where
+module _ (bytes : List ℕ) (a : bookOf bytes .number ≡ 0) {js : List Job} {sheet : List ℕ} (sound : Sound js) (rows : Shown bytes js sheet) where
   pub shown-view : seen bytes sheet ≡ viewOf (payIn bytes) js
   shown-view = rows-view sound bytes (payIn bytes) rows (λ i t l. place-pay bytes a i t) (past-pay bytes)
 

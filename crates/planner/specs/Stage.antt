@@ -1,6 +1,10 @@
 -- One round of the code's loop, as a step from stage to stage (VI.1, for any way of choosing a mode).
 use mathlib.Core.List.{List, []}
-use Prim.Native.Nat.{ℕ, _+_}
+use mathlib.Core.Path.{_≡_}
+use mathlib.Core.Bool.{true, false}
+use Prim.Native.Nat.{ℕ, zero, suc, _+_, _<_, _≤_}
+use borrow.Author.Tests.{lt-ltb, le-ltb}
+use lib.Dec.{ltb}
 use lib.IntN.{ℤ, pos, _+ℤ_}
 use lib.ListN.{length}
 use Rattle.laws.specs.Fill.{padded}
@@ -8,7 +12,7 @@ use Rattle.gus.specs.declared.Part.{Part}
 use Rattle.gus.specs.View.{Pay, viewOf}
 use Rattle.gus.specs.Choice.{Way}
 use Rattle.gus.specs.Group.{Group}
-use Rattle.opening.specs.declared.State.{State}
+use Rattle.planner.specs.declared.State.{State}
 use Rattle.planner.specs.LaidOut.{emptyPart}
 use Rattle.planner.specs.Round.{roundOf}
 use Rattle.planner.specs.Applied.{afterParts}
@@ -40,3 +44,20 @@ joinedBy g s = record {
 -- what the next round appends
 abbrev pub roundAt : Way → Pay → Stage → Group
 roundAt way pay s = roundOf way (viewOf pay (s .state .jobs)) (s .moment)
+
+-- the stage after n rounds; a round without a group is the last, and nothing is changed after it
+unfoldable pub nextStage : Way → Pay → Stage → Stage
+nextStage way pay s = elim (ltb 0 (length (roundAt way pay s .parts))) [ true ↦ joinedBy (roundAt way pay s) s | false ↦ s ]
+
+unfoldable pub stageAfter : ℕ → Way → Pay → Stage → Stage
+stageAfter zero way pay s = s
+stageAfter (suc n) way pay s = nextStage way pay (stageAfter n way pay s)
+
+module _ (way : Way) (pay : Pay) (s : Stage) where
+  pub next-joined : 0 < length (roundAt way pay s .parts) → nextStage way pay s ≡ joinedBy (roundAt way pay s) s
+  unfolding nextStage
+  next-joined l = rw (lt-ltb 0 (length (roundAt way pay s .parts)) l, nextStage)
+
+  pub next-same : length (roundAt way pay s .parts) ≤ 0 → nextStage way pay s ≡ s
+  unfolding nextStage
+  next-same l = rw (le-ltb 0 (length (roundAt way pay s .parts)) l, nextStage)

@@ -10,7 +10,7 @@ use Rattle.gus.specs.Choice.{Way}
 use Rattle.gus.specs.Round.{Plan, stop, joined, rounds}
 use Rattle.invariants.specs.Fair.{Fair}
 use Rattle.invariants.specs.Burden.{runs-burden}
-use Rattle.opening.specs.declared.State.{State}
+use Rattle.planner.specs.declared.State.{State}
 use Rattle.planner.specs.declared.PlanParts.{PlanParts}
 use Rattle.planner.specs.LaidOut.{emptyPart}
 use Rattle.planner.specs.Appending.{appended-pushing}

@@ -18,16 +18,11 @@ pub record Standing (s starts holders : List ℕ) (n : ℕ) : Type 0 where
   pub holders-are : holders ≡ bookOf s .holders
   pub jobs-are : n ≡ bookOf s .jobs
 
--- with the rows that are written first, as they are before: the sheet, what each job asks for, and both
+-- with the sheet as it is before its rows are written
 pub record SheetBlank (s starts holders : List ℕ) (n : ℕ) (sheet : List ℕ) : Type 0 where
   pub standing : Standing s starts holders n
-  pub blank : sheet ≡ replicate 256 0
+  pub blank : sheet ≡ replicate 288 0
 
-pub record AsksBlank (s starts : List ℕ) (n : ℕ) (asks : List ℕ) : Type 0 where
-  pub standing : Standing s starts (bookOf s .holders) n
-  pub blank : asks ≡ replicate 32 255
-
-pub record Unlaid (s : List ℕ) (j : Judged) (sheet asks : List ℕ) : Type 0 where
+pub record Unlaid (s : List ℕ) (j : Judged) (sheet : List ℕ) : Type 0 where
   pub accepted : Accepted s j
-  pub sheet-blank : sheet ≡ replicate 256 0
-  pub asks-blank : asks ≡ replicate 32 255
+  pub blank : sheet ≡ replicate 288 0

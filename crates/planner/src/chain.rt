@@ -5,7 +5,7 @@ ghost use Rattle.planner.specs.Following.{Followed};
 use crate::sheet::waits_of;
 
 // Members r .. 32, farthest holder first. The array is the caller's: a chain that came back by value would be copied for each job.
-pub(crate) fn follow(sheet: &[u32; 256], last: usize, members: &mut [u8; 32]) -> usize
+pub(crate) fn follow(sheet: &[u32; 288], last: usize, members: &mut [u8; 32]) -> usize
     requires { ⌜ Tracing last (now members) ⌝ }
     ensures { λ r. ⌜ Followed (waitsIn (now (sheet .entry))) last (now (members .exit)) r ⌝ }
 {

@@ -21,7 +21,7 @@ use gus::Course;
 // numbers: a course as one value is packed and unpacked at each member.
 fn better_undone<'a>(
     bytes: &'a [u8],
-    sheet: &'a [u32; 256],
+    sheet: &'a [u32; 288],
     members: &'a [u8; 32],
     k: usize,
     t: u32,
@@ -54,7 +54,7 @@ fn better_undone<'a>(
 // Whether the member at place k rolls back; the last one keeps its mode.
 pub(crate) fn rolls_back<'a>(
     bytes: &'a [u8],
-    sheet: &'a [u32; 256],
+    sheet: &'a [u32; 288],
     members: &'a [u8; 32],
     k: usize,
     t: u32,

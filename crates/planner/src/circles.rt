@@ -16,7 +16,7 @@ fn lower(a: usize, b: usize) -> usize
 }
 
 // The lowest member of the circle that a job is on, and nobody where it is on none. Most jobs wait for nobody, which ends the walk at once.
-fn circle_of(sheet: &[u32; 256], home: usize) -> u8
+fn circle_of(sheet: &[u32; 288], home: usize) -> u8
     requires { ⌜ home < 32 ⌝ }
     ensures { λ r. ⌜ r ≡ circleOf (waitsIn (now (sheet .entry))) home ⌝ }
 {
@@ -38,7 +38,7 @@ fn circle_of(sheet: &[u32; 256], home: usize) -> u8
 }
 
 // The circle of each job, found once; from the n-th job on nobody waits.
-pub(crate) fn circles(sheet: &[u32; 256], n: usize) -> [u8; 32]
+pub(crate) fn circles(sheet: &[u32; 288], n: usize) -> [u8; 32]
     requires { ⌜ Waiting n (waitsIn (now sheet)) ⌝ }
     ensures { λ r. ⌜ r ≡ circlesOf (waitsIn (now (sheet .entry))) ⌝ }
 {

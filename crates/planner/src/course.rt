@@ -26,7 +26,7 @@ pub(crate) fn plus(gain: i32, worth: i64) -> i32
 }
 
 // What finishing a job at t is worth, by its curve in the book.
-pub(crate) fn worth_of<'a>(bytes: &'a [u8], sheet: &'a [u32; 256], job: usize, t: u32) -> i64
+pub(crate) fn worth_of<'a>(bytes: &'a [u8], sheet: &'a [u32; 288], job: usize, t: u32) -> i64
     requires { ⌜ job < 32 ⌝ }
     ensures { λ r. ⌜ r ≡ paid (now (bytes .entry)) (now (sheet .entry)) job t ⌝ }
 {
@@ -37,7 +37,7 @@ pub(crate) fn worth_of<'a>(bytes: &'a [u8], sheet: &'a [u32; 256], job: usize, t
 
 // How long the member at place k takes in a mode: until what the next one requests is free; the last one to its end. No worth is asked, so
 // no book is lent.
-pub(crate) fn span_at<'a>(sheet: &'a [u32; 256], members: &'a [u8; 32], k: usize, back: bool) -> u32
+pub(crate) fn span_at<'a>(sheet: &'a [u32; 288], members: &'a [u8; 32], k: usize, back: bool) -> u32
     requires { ⌜ Placing (now members) k ⌝ }
     ensures { λ r. ⌜ r ≡ spanAt (seen [] (now (sheet .entry))) (now (members .entry)) k back ⌝ }
 {
@@ -59,7 +59,7 @@ pub(crate) fn span_at<'a>(sheet: &'a [u32; 256], members: &'a [u8; 32], k: usize
 // run time left earns its worth at that moment."
 pub(crate) fn earn<'a>(
     bytes: &'a [u8],
-    sheet: &'a [u32; 256],
+    sheet: &'a [u32; 288],
     job: usize,
     back: bool,
     n: u32,
@@ -83,7 +83,7 @@ pub(crate) fn earn<'a>(
 // That part after a course that began at t.
 pub(crate) fn step<'a>(
     bytes: &'a [u8],
-    sheet: &'a [u32; 256],
+    sheet: &'a [u32; 288],
     job: usize,
     back: bool,
     n: u32,

@@ -47,9 +47,8 @@ fn first_accepted(bytes: &[u8], j: Judged) -> FirstPart
     requires { ⌜ Accepted (now bytes) j ⌝ }
     ensures { λ r. ⌜ r ≡ firstBy byDensity (now (bytes .entry)) ⌝ }
 {
-    let mut sheet = [0u32; 256];
-    let mut asks = [255u8; 32];
-    let v = prepare(bytes, j, &mut sheet, &mut asks);
+    let mut sheet = [0u32; 288];
+    let v = prepare(bytes, j, &mut sheet);
     if v.knot < 32 {
         return refused_first(KNOT, v.knot as usize);
     }

@@ -23,7 +23,7 @@ fn short(n: u32) -> u16
 }
 
 // The part of the member at place k in a mode.
-fn part_at<'a>(sheet: &'a [u32; 256], members: &'a [u8; 32], k: usize, back: bool) -> Part
+fn part_at<'a>(sheet: &'a [u32; 288], members: &'a [u8; 32], k: usize, back: bool) -> Part
     requires { ⌜ Spanning (seen [] (now sheet)) (now members) k ⌝ }
     ensures { λ r. ⌜ r ≡ partAt (seen [] (now (sheet .entry))) (now (members .entry)) k back ⌝ }
 {
@@ -35,7 +35,7 @@ fn part_at<'a>(sheet: &'a [u32; 256], members: &'a [u8; 32], k: usize, back: boo
     }
 }
 
-pub(crate) fn group<'a>(bytes: &'a [u8], sheet: &'a [u32; 256], last: usize, t: u32) -> GroupParts
+pub(crate) fn group<'a>(bytes: &'a [u8], sheet: &'a [u32; 288], last: usize, t: u32) -> GroupParts
     requires { ⌜ Stepping (seen (now bytes) (now sheet)) t last start ⌝ }
     ensures { λ r. ⌜ r ≡ laidOut (groupOf byDensity (seen (now (bytes .entry)) (now (sheet .entry))) t last) ⌝ }
 {

@@ -1,17 +1,19 @@
 // The sheet brought up to date: after a part, and after the victims are sent back. Only this file, lay.rt and sheet.rt know its columns.
 ghost use mathlib.Core.Path.{_≡_};
 ghost use Prim.Native.Nat.{_<_, _≤_};
-ghost use Rattle.planner.specs.Putting.{put, linked, modeOf, owned, relinkedRow, relinked, sentRow};
-ghost use Rattle.planner.specs.Settling.{Handed};
-ghost use Rattle.planner.specs.WorkedRows.{KeptAfter};
-ghost use Rattle.planner.specs.SettledRows.{KeptSettled};
+ghost use Rattle.laws.specs.Count.{upto};
+ghost use Rattle.planner.specs.Putting.{put, linked, modeOf, owned, relinkedRow, relinkedAt, reworked, sentRow, sentRows};
+ghost use Rattle.planner.specs.Quiet.{Quiet, Reworking};
+ghost use Rattle.planner.specs.Settling.{Handed, victimsIn};
 use crate::Victims;
+use crate::sheet::ASKS;
 use crate::sheet::HOLD;
 use crate::sheet::MODE;
 use crate::sheet::ROLLBACK;
 use crate::sheet::RUN;
 use crate::sheet::UNDO;
 use crate::sheet::WAITS;
+use crate::sheet::asks_of;
 use crate::wide;
 use job::Held;
 use job::Job;
@@ -34,15 +36,15 @@ fn mode(rolling: bool) -> u32
     if rolling { 1 } else { 0 }
 }
 
-pub(crate) fn put(sheet: &mut [u32; 256], column: usize, row: usize, n: u32)
-    requires { ⌜ (column < 8) × (row < 32) ⌝ }
+pub(crate) fn put(sheet: &mut [u32; 288], column: usize, row: usize, n: u32)
+    requires { ⌜ (column < 9) × (row < 32) ⌝ }
     ensures { λ _. ⌜ now (sheet .exit) ≡ put column row n (now (sheet .entry)) ⌝ }
 {
-    sheet[8 * row + column] = n;
+    sheet[9 * row + column] = n;
 }
 
 // Whom a row's job waits for, and how long that one needs what it requests.
-pub(crate) fn link(sheet: &mut [u32; 256], row: usize, job: u8, hold: u16, undo: u16)
+pub(crate) fn link(sheet: &mut [u32; 288], row: usize, job: u8, hold: u16, undo: u16)
     requires { ⌜ row < 32 ⌝ }
     ensures { λ _. ⌜ now (sheet .exit) ≡ linked row job hold undo (now (sheet .entry)) ⌝ }
 {
@@ -51,19 +53,27 @@ pub(crate) fn link(sheet: &mut [u32; 256], row: usize, job: u8, hold: u16, undo:
     put(sheet, UNDO, row, time(undo));
 }
 
-// A job's own numbers; it asks for nothing.
-pub(crate) fn put_own(sheet: &mut [u32; 256], job: usize, run: u16, rollback: u16, rolling: bool)
+// A job's own numbers; whom it waits for is still to be linked.
+pub(crate) fn put_own(
+    sheet: &mut [u32; 288],
+    job: usize,
+    run: u16,
+    rollback: u16,
+    rolling: bool,
+    asks: u8,
+)
     requires { ⌜ job < 32 ⌝ }
-    ensures { λ _. ⌜ now (sheet .exit) ≡ owned job run rollback rolling (now (sheet .entry)) ⌝ }
+    ensures { λ _. ⌜ now (sheet .exit) ≡ owned job run rollback rolling asks (now (sheet .entry)) ⌝ }
 {
     put(sheet, RUN, job, time(run));
     put(sheet, ROLLBACK, job, time(rollback));
     put(sheet, MODE, job, mode(rolling));
+    put(sheet, ASKS, job, number(asks));
     link(sheet, job, 255, 0, 0);
 }
 
 // The row of one who asks for what the job has so after its part.
-fn relink_row(sheet: &mut [u32; 256], row: usize, job: u8, h: Held)
+fn relink_row(sheet: &mut [u32; 288], row: usize, job: u8, h: Held)
     requires { ⌜ row < 32 ⌝ }
     ensures { λ _. ⌜ now (sheet .exit) ≡ relinkedRow job h row (now (sheet .entry)) ⌝ }
 {
@@ -71,60 +81,66 @@ fn relink_row(sheet: &mut [u32; 256], row: usize, job: u8, h: Held)
         link(sheet, row, job, h.hold, h.rollback);
         return;
     }
-    let waits = sheet[8 * row + WAITS];
+    let waits = sheet[9 * row + WAITS];
     let part = number(job);
     if waits == part {
         link(sheet, row, 255, 0, 0);
     }
 }
 
-// The rows of those who ask for something; from the n-th on nobody does.
-fn relink(sheet: &mut [u32; 256], asks: &[u8; 32], n: usize, job: u8, held: [Held; 32])
+// The rows of those among the first n who ask for something; and whether there are any.
+fn relink(sheet: &mut [u32; 288], n: usize, job: u8, held: [Held; 32]) -> bool
     requires { ⌜ n ≤ 32 ⌝ }
-    ensures { λ _. ⌜ now (sheet .exit) ≡ relinked (now (asks .entry)) n job held (now (sheet .entry)) ⌝ }
+    ensures { λ r. ⌜ (now (sheet .exit) ≡ upto (relinkedAt job held) n (now (sheet .entry))) × Quiet r n (now (sheet .exit)) ⌝ }
 {
+    let mut asking = false;
     let mut i: usize = 0;
     while i < n {
-        let resource = wide(asks[i]);
+        let resource = asks_of(sheet, i);
         if resource < 32 {
+            asking = true;
             let h = held[resource];
             relink_row(sheet, i, job, h);
         }
         i += 1;
     }
+    asking
 }
 
-// After a part of this job, which then is j.
-pub(crate) fn put_worked(sheet: &mut [u32; 256], asks: &mut [u8; 32], n: usize, job: u8, j: Job)
-    requires { ⌜ (job < 32) × (n ≤ 32) ⌝ }
-    ensures { λ _. ⌜ KeptAfter n job j (now (sheet .entry)) (now (asks .entry)) (now (sheet .exit)) (now (asks .exit)) ⌝ }
+// After a part of this job, which then is j. asking: whether anybody asks for anything; a request is never made, only granted or dropped, so
+// once nobody asks no row is looked at again.
+pub(crate) fn put_worked(sheet: &mut [u32; 288], n: usize, asking: bool, job: u8, j: Job) -> bool
+    requires { ⌜ Reworking n asking job j (now sheet) ⌝ }
+    ensures { λ r. ⌜ (now (sheet .exit) ≡ reworked job j (now (sheet .entry))) × Quiet r n (now (sheet .exit)) ⌝ }
 {
     let row = wide(job);
-    put_own(sheet, row, j.run, j.rollback, j.rolling);
-    asks[row] = j.request.resource;
-    let held = j.held;
-    relink(sheet, asks, n, job, held);
+    put_own(sheet, row, j.run, j.rollback, j.rolling, j.request.resource);
+    if asking {
+        let held = j.held;
+        return relink(sheet, n, job, held);
+    }
+    false
 }
 
 // "It goes into rollback and loses its request."
-fn send_row(sheet: &mut [u32; 256], row: usize)
+fn send_row(sheet: &mut [u32; 288], row: usize)
     requires { ⌜ row < 32 ⌝ }
     ensures { λ _. ⌜ now (sheet .exit) ≡ sentRow row (now (sheet .entry)) ⌝ }
 {
     put(sheet, MODE, row, 1);
+    put(sheet, ASKS, row, 255);
     link(sheet, row, 255, 0, 0);
 }
 
-pub(crate) fn settle_rows(v: Victims, sheet: &mut [u32; 256], asks: &mut [u8; 32])
+pub(crate) fn settle_rows(v: Victims, sheet: &mut [u32; 288])
     requires { ⌜ Handed v ⌝ }
-    ensures { λ _. ⌜ KeptSettled v (now (sheet .entry)) (now (asks .entry)) (now (sheet .exit)) (now (asks .exit)) ⌝ }
+    ensures { λ _. ⌜ now (sheet .exit) ≡ sentRows (victimsIn v) (now (sheet .entry)) ⌝ }
 {
     let count = v.count;
     let mut k: usize = 0;
     while k < count {
         let victim = v.list[k] as usize;
         send_row(sheet, victim);
-        asks[victim] = 255;
         k += 1;
     }
 }

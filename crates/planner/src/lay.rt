@@ -1,13 +1,13 @@
 // The sheet of a book's jobs, laid from its bytes: no record and no job is made for it.
 ghost use mathlib.Core.Path.{_≡_};
 ghost use Prim.Native.Nat.{_<_};
-ghost use Rattle.planner.specs.Standing.{SheetBlank, AsksBlank};
-ghost use Rattle.planner.specs.Laid.{LaidRows, LaidAsks};
-ghost use Rattle.planner.specs.RowLaid.{waitingRow, rowLaid};
+ghost use Rattle.planner.specs.Standing.{SheetBlank};
+ghost use Rattle.planner.specs.RowLaid.{waitingRow, rowLaid, vacantRow, laidSheet};
 ghost use Rattle.planner.specs.RowRight.{RowThere};
 use crate::keep::link;
 use crate::keep::put;
 use crate::keep::put_own;
+use crate::sheet::ASKS;
 use crate::sheet::END;
 use crate::sheet::PIECES;
 use crate::sheet::WAITS;
@@ -23,7 +23,7 @@ fn lay_wait<'a>(
     holders: &'a [u8; 32],
     job: usize,
     resource: usize,
-    sheet: &mut [u32; 256],
+    sheet: &mut [u32; 288],
 )
     requires { ⌜ job < 32 ⌝ }
     ensures { λ _. ⌜ now (sheet .exit) ≡ waitingRow (now (bytes .entry)) (now (starts .entry)) (now (holders .entry)) job resource (now (sheet .entry)) ⌝ }
@@ -46,7 +46,7 @@ fn lay_row<'a>(
     starts: &'a [usize; 33],
     holders: &'a [u8; 32],
     job: usize,
-    sheet: &mut [u32; 256],
+    sheet: &mut [u32; 288],
 )
     requires { ⌜ RowThere (now bytes) (now starts) (now holders) job ⌝ }
     ensures { λ _. ⌜ now (sheet .exit) ≡ rowLaid (now (bytes .entry)) (now (starts .entry)) (now (holders .entry)) job (now (sheet .entry)) ⌝ }
@@ -58,42 +58,45 @@ fn lay_row<'a>(
     let end = curve + 1 + 10 * pieces;
     put(sheet, END, job, end as u32);
     put(sheet, PIECES, job, pieces as u32);
-    put_own(sheet, job, head.run, head.rollback, head.rolling);
+    put_own(
+        sheet,
+        job,
+        head.run,
+        head.rollback,
+        head.rolling,
+        head.request.resource,
+    );
     let resource = wide(head.request.resource);
     lay_wait(bytes, starts, holders, job, resource, sheet);
 }
 
-// The sheet comes in as zeros, so that a row without a job has only to wait for nobody.
+// A row without a job, in a sheet of zeros: it asks for nothing and waits for nobody.
+fn lay_vacant(sheet: &mut [u32; 288], row: usize)
+    requires { ⌜ row < 32 ⌝ }
+    ensures { λ _. ⌜ now (sheet .exit) ≡ vacantRow row (now (sheet .entry)) ⌝ }
+{
+    put(sheet, ASKS, row, 255);
+    put(sheet, WAITS, row, 255);
+}
+
+// The sheet comes in as zeros.
 pub(crate) fn lay<'a>(
     bytes: &'a [u8],
     starts: &'a [usize; 33],
     holders: &'a [u8; 32],
     n: usize,
-    sheet: &mut [u32; 256],
+    sheet: &mut [u32; 288],
 )
     requires { ⌜ SheetBlank (now bytes) (now starts) (now holders) n (now sheet) ⌝ }
-    ensures { λ _. ⌜ LaidRows (now (bytes .entry)) (now (sheet .exit)) ⌝ }
+    ensures { λ _. ⌜ now (sheet .exit) ≡ laidSheet (now (bytes .entry)) (now (starts .entry)) (now (holders .entry)) n ⌝ }
 {
     let mut i: usize = 0;
     while i < 32 {
         if i < n {
             lay_row(bytes, starts, holders, i, sheet);
         } else {
-            put(sheet, WAITS, i, 255);
+            lay_vacant(sheet, i);
         }
-        i += 1;
-    }
-}
-
-// What each job asks for; who asks for nothing has 255, and so has a row without a job.
-pub(crate) fn lay_asks<'a>(bytes: &'a [u8], starts: &'a [usize; 33], n: usize, asks: &mut [u8; 32])
-    requires { ⌜ AsksBlank (now bytes) (now starts) n (now asks) ⌝ }
-    ensures { λ _. ⌜ LaidAsks (now (bytes .entry)) (now (asks .exit)) ⌝ }
-{
-    let mut i: usize = 0;
-    while i < n {
-        let place = starts[i] + 5; // of the request, whose first byte is the resource
-        asks[i] = bytes[place];
         i += 1;
     }
 }

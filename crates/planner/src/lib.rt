@@ -2,6 +2,7 @@
 ghost use mathlib.Core.Path.{_≡_};
 use gus::Course;
 use gus::Part;
+use job::Job;
 
 pub mod sheet; // what a round asks of the jobs: one sheet, and its readers
 pub mod lay; // the sheet of a book's jobs
@@ -23,6 +24,14 @@ pub mod settle; // the victims go into rollback
 pub mod rounds; // VI.1: round after round
 pub mod plan; // the whole plan of a book
 pub mod first; // the first part of the plan, by one round
+
+// The planner's state: the job records by number; who holds each resource, a job's number or 255 for nobody; and of each job what a round asks,
+// whom it waits for among it, kept equal to what a fresh look through requests and holders gives (02, R-6).
+pub struct State {
+    pub jobs: [Job; 32],
+    pub holders: [u8; 32],
+    pub sheet: [u32; 288],
+}
 
 // The victims by the lowest member of their circle: places 0 .. count of list, and 0 in the others.
 // knot is the lowest job of a circle that has none, and 255 where each circle has one.

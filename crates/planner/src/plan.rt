@@ -2,9 +2,12 @@
 ghost use mathlib.Core.Path.{_≡_};
 ghost use Rattle.planner.specs.Planned.{refusedPlan, plannedOf};
 ghost use Rattle.planner.specs.Standing.{Accepted};
-ghost use Rattle.planner.specs.Answering.{planIn, firstState, Chosen, Cleared};
+ghost use Rattle.book.specs.Format.{bookOf};
+ghost use Rattle.opening.specs.Planned.{startFrom};
+ghost use Rattle.planner.specs.Answering.{planIn, Chosen, Cleared};
 use crate::PlanParts;
 use crate::Planned;
+use crate::State;
 use crate::Victims;
 use crate::prepare::prepare;
 use crate::rounds::rounds;
@@ -12,8 +15,7 @@ use crate::settle::settle;
 use book::Judged;
 use book::judge::judge;
 use gus::Part;
-use opening::State;
-use opening::start::open_state;
+use opening::start::open_jobs;
 
 pub(crate) const KNOT: u8 = 10;
 
@@ -57,42 +59,41 @@ fn plan_of(v: Victims, p: PlanParts) -> Planned
 }
 
 // The state of the first round, with the victims in rollback. Opening and settling are a function of their own, and so are the rounds: with
-// more code around it the compiler no longer joins the copies that handing the state on would make, 4 KB of stack each.
-fn first_state(bytes: &[u8], j: Judged, v: Victims) -> State
+// more code around it the compiler no longer joins the copies that handing the state on would make, 5 KB of stack each.
+fn first_state(bytes: &[u8], j: Judged, v: Victims, sheet: &[u32; 288]) -> State
     requires { ⌜ Chosen (now bytes) j v ⌝ }
-    ensures { λ r. ⌜ r ≡ firstState (now (bytes .entry)) ⌝ }
+    ensures { λ r. ⌜ r ≡ record { jobs = startFrom (bookOf (now (bytes .entry))); holders = bookOf (now (bytes .entry)) .holders; sheet = now (sheet .entry) } ⌝ }
 {
     let holders = j.holders;
-    let opened = open_state(bytes, &j.starts, holders, j.jobs);
+    let jobs = open_jobs(bytes, &j.starts, j.jobs);
+    let opened = State {
+        jobs,
+        holders,
+        sheet: *sheet,
+    };
     settle(opened, v)
 }
 
-fn plan_rounds(
-    bytes: &[u8],
-    j: Judged,
-    v: Victims,
-    sheet: &mut [u32; 256],
-    asks: &mut [u8; 32],
-) -> PlanParts
-    requires { ⌜ Cleared (now bytes) j (now sheet) (now asks) v ⌝ }
+fn plan_rounds(bytes: &[u8], j: Judged, v: Victims, sheet: &[u32; 288]) -> PlanParts
+    requires { ⌜ Cleared (now bytes) j (now sheet) v ⌝ }
     ensures { λ r. ⌜ planIn v r ≡ plannedOf (now (bytes .entry)) ⌝ }
 {
-    let state = first_state(bytes, j, v);
-    rounds(bytes, state, sheet, asks, j.jobs, j.now)
+    let state = first_state(bytes, j, v, sheet);
+    rounds(bytes, state, j.jobs, j.now)
 }
 
-// The sheet is laid only for a book that is accepted: it would be most of what a refused one costs.
+// The sheet is laid only for a book that is accepted: it would be most of what a refused one costs. It is prepared where it stands and then goes
+// into the state: lent out of a state, it would have the whole state copied at each handing on.
 fn plan_accepted(bytes: &[u8], j: Judged) -> Planned
     requires { ⌜ Accepted (now bytes) j ⌝ }
     ensures { λ r. ⌜ r ≡ plannedOf (now (bytes .entry)) ⌝ }
 {
-    let mut sheet = [0u32; 256];
-    let mut asks = [255u8; 32];
-    let v = prepare(bytes, j, &mut sheet, &mut asks);
+    let mut sheet = [0u32; 288];
+    let v = prepare(bytes, j, &mut sheet);
     if v.knot < 32 {
         return refused_plan(KNOT, v.knot as usize);
     }
-    let p = plan_rounds(bytes, j, v, &mut sheet, &mut asks);
+    let p = plan_rounds(bytes, j, v, &sheet);
     plan_of(v, p)
 }
 

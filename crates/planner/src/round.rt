@@ -37,7 +37,7 @@ fn no_group() -> GroupParts
 }
 
 // A group without parts: no group is worth more than zero, and the plan ends.
-pub(crate) fn round<'a>(bytes: &'a [u8], sheet: &'a [u32; 256], n: usize, t: u32) -> GroupParts
+pub(crate) fn round<'a>(bytes: &'a [u8], sheet: &'a [u32; 288], n: usize, t: u32) -> GroupParts
     requires { ⌜ Scanning (seen (now bytes) (now sheet)) n t ⌝ }
     ensures { λ r. ⌜ r ≡ laidOut (roundOf byDensity (seen (now (bytes .entry)) (now (sheet .entry))) t) ⌝ }
 {

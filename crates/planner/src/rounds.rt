@@ -9,13 +9,13 @@ ghost use Rattle.opening.specs.Start.{payFrom};
 ghost use Rattle.planner.specs.Working.{Starting};
 ghost use Rattle.planner.specs.Staged.{Rounded};
 use crate::PlanParts;
+use crate::State;
 use crate::apply::holders_after;
 use crate::apply::worked_job;
 use crate::keep::put_worked;
 use crate::round::round;
 use crate::wide;
 use gus::Part;
-use opening::State;
 
 fn sum(total: i32, gain: i32) -> i32
     requires { ⌜ (natAbs total ≤ 1_024_000_000) × (natAbs gain ≤ 32_000_000) ⌝ }
@@ -26,15 +26,8 @@ fn sum(total: i32, gain: i32) -> i32
 
 // The state stands in one local from the first round to the last, and each part changes there what it touches: handed from function to
 // function it would be copied each time, and that is most of what a round with short chains costs.
-pub(crate) fn rounds<'a>(
-    bytes: &'a [u8],
-    start: State,
-    sheet: &mut [u32; 256],
-    asks: &mut [u8; 32],
-    n: usize,
-    t: u32,
-) -> PlanParts
-    requires { ⌜ Starting (now bytes) start (now sheet) (now asks) n t ⌝ }
+pub(crate) fn rounds<'a>(bytes: &'a [u8], start: State, n: usize, t: u32) -> PlanParts
+    requires { ⌜ Starting (now bytes) start n t ⌝ }
     ensures { λ r. ⌜ Rounded (rounds 32 byDensity (payFrom (bookOf (now (bytes .entry)))) (start .jobs) t) r ⌝ }
 {
     let empty = Part {
@@ -44,12 +37,13 @@ pub(crate) fn rounds<'a>(
     };
     let mut state = start;
     let mut plan = [empty; 96];
+    let mut asking = true;
     let mut count: usize = 0;
     let mut total: i32 = 0;
     let mut moment: u32 = t;
     let mut i: usize = 0;
     while i < 32 {
-        let g = round(bytes, sheet, n, moment);
+        let g = round(bytes, &state.sheet, n, moment);
         let parts = g.parts;
         let course = g.course;
         if g.count == 0 {
@@ -72,7 +66,7 @@ pub(crate) fn rounds<'a>(
             let held = new.held;
             let handed = holders_after(holders, p.job, held);
             state.holders = handed;
-            put_worked(sheet, asks, n, p.job, new);
+            asking = put_worked(&mut state.sheet, n, asking, p.job, new);
             plan[count + k] = p;
             k += 1;
         }

@@ -23,7 +23,7 @@ use gus::Best;
 use gus::Course;
 
 // A job to its end by itself. By running it gives just what it would lose by being sent back.
-fn alone<'a>(bytes: &'a [u8], sheet: &'a [u32; 256], job: usize, t: u32) -> Course
+fn alone<'a>(bytes: &'a [u8], sheet: &'a [u32; 288], job: usize, t: u32) -> Course
     requires { ⌜ Stepping (seen (now bytes) (now sheet)) t job start ⌝ }
     ensures { λ r. ⌜ r ≡ toEnd (seen (now (bytes .entry)) (now (sheet .entry))) t job start ⌝ }
 {
@@ -35,7 +35,7 @@ fn alone<'a>(bytes: &'a [u8], sheet: &'a [u32; 256], job: usize, t: u32) -> Cour
 }
 
 // The course of a job's group. A job that waits for nobody is its whole chain, and most wait for nobody.
-fn score_of<'a>(bytes: &'a [u8], sheet: &'a [u32; 256], last: usize, t: u32) -> Course
+fn score_of<'a>(bytes: &'a [u8], sheet: &'a [u32; 288], last: usize, t: u32) -> Course
     requires { ⌜ Stepping (seen (now bytes) (now sheet)) t last start ⌝ }
     ensures { λ r. ⌜ r ≡ groupOf byDensity (seen (now (bytes .entry)) (now (sheet .entry))) t last .course ⌝ }
 {
@@ -48,7 +48,7 @@ fn score_of<'a>(bytes: &'a [u8], sheet: &'a [u32; 256], last: usize, t: u32) -> 
     walk(bytes, sheet, &members, from, t, &mut modes)
 }
 
-fn is_left(sheet: &[u32; 256], job: usize) -> bool
+fn is_left(sheet: &[u32; 288], job: usize) -> bool
     requires { ⌜ job < 32 ⌝ }
     ensures { λ r. ⌜ r ≡ ltb 0 (runIn (now (sheet .entry)) job) && ltb 0 (rollbackIn (now (sheet .entry)) job) ⌝ }
 {
@@ -59,7 +59,7 @@ fn is_left(sheet: &[u32; 256], job: usize) -> bool
 }
 
 // A job, if it is left, against the best of those before it.
-fn consider<'a>(bytes: &'a [u8], sheet: &'a [u32; 256], job: usize, t: u32, b: Best) -> Best
+fn consider<'a>(bytes: &'a [u8], sheet: &'a [u32; 288], job: usize, t: u32, b: Best) -> Best
     requires { ⌜ Stepping (seen (now bytes) (now sheet)) t job start ⌝ }
     ensures { λ r. ⌜ r ≡ consider byDensity (seen (now (bytes .entry)) (now (sheet .entry))) t job b ⌝ }
 {
@@ -73,7 +73,7 @@ fn consider<'a>(bytes: &'a [u8], sheet: &'a [u32; 256], job: usize, t: u32, b: B
 }
 
 // The round's best group, as numbers.
-pub(crate) fn scan<'a>(bytes: &'a [u8], sheet: &'a [u32; 256], n: usize, t: u32) -> Best
+pub(crate) fn scan<'a>(bytes: &'a [u8], sheet: &'a [u32; 288], n: usize, t: u32) -> Best
     requires { ⌜ Scanning (seen (now bytes) (now sheet)) n t ⌝ }
     ensures { λ r. ⌜ r ≡ bestOf byDensity (seen (now (bytes .entry)) (now (sheet .entry))) t ⌝ }
 {

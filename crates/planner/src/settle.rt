@@ -2,10 +2,10 @@
 ghost use mathlib.Core.Path.{_≡_};
 ghost use Rattle.gus.specs.Victims.{sentBack, settled};
 ghost use Rattle.planner.specs.Settling.{Handed, victimsIn};
+use crate::State;
 use crate::Victims;
 use job::Job;
 use job::Request;
-use opening::State;
 
 fn sent_back(mut j: Job) -> Job
     ensures { λ r. ⌜ r ≡ sentBack j ⌝ }
@@ -20,9 +20,10 @@ fn sent_back(mut j: Job) -> Job
     j
 }
 
+// Of the state's jobs: their rows are settled already.
 pub(crate) fn settle(mut s: State, v: Victims) -> State
     requires { ⌜ Handed v ⌝ }
-    ensures { λ r. ⌜ r ≡ record { jobs = settled (s .jobs) (victimsIn v); holders = s .holders } ⌝ }
+    ensures { λ r. ⌜ r ≡ record { jobs = settled (s .jobs) (victimsIn v); holders = s .holders; sheet = s .sheet } ⌝ }
 {
     let count = v.count;
     let mut k: usize = 0;

@@ -15,7 +15,7 @@ use gus::Best;
 use gus::Course;
 
 // "worth at now + run time left, divided by run time left"; no member of a circle is in rollback (R-8).
-pub(crate) fn loss_of<'a>(bytes: &'a [u8], sheet: &'a [u32; 256], job: usize, t: u32) -> Course
+pub(crate) fn loss_of<'a>(bytes: &'a [u8], sheet: &'a [u32; 288], job: usize, t: u32) -> Course
     requires { ⌜ Stepping (seen (now bytes) (now sheet)) t job start ⌝ }
     ensures { λ r. ⌜ r ≡ lossOf (seen (now (bytes .entry)) (now (sheet .entry))) t job ⌝ }
 {
@@ -27,7 +27,7 @@ pub(crate) fn loss_of<'a>(bytes: &'a [u8], sheet: &'a [u32; 256], job: usize, t:
 
 fn offer<'a>(
     bytes: &'a [u8],
-    sheet: &'a [u32; 256],
+    sheet: &'a [u32; 288],
     circles: &'a [u8; 32],
     low: u8,
     job: usize,
@@ -52,7 +52,7 @@ fn offer<'a>(
 // The victim of the circle whose lowest member is low.
 pub(crate) fn victim_of<'a>(
     bytes: &'a [u8],
-    sheet: &'a [u32; 256],
+    sheet: &'a [u32; 288],
     circles: &'a [u8; 32],
     low: u8,
     n: usize,

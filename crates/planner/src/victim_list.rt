@@ -36,7 +36,7 @@ fn note(mut v: Victims, b: Best, low: u8) -> Victims
 
 fn list_victims<'a>(
     bytes: &'a [u8],
-    sheet: &'a [u32; 256],
+    sheet: &'a [u32; 288],
     circles: &'a [u8; 32],
     n: usize,
     t: u32,
@@ -61,7 +61,7 @@ fn list_victims<'a>(
     v
 }
 
-pub(crate) fn victims<'a>(bytes: &'a [u8], sheet: &'a [u32; 256], n: usize, t: u32) -> Victims
+pub(crate) fn victims<'a>(bytes: &'a [u8], sheet: &'a [u32; 288], n: usize, t: u32) -> Victims
     requires { ⌜ Scanning (seen (now bytes) (now sheet)) n t ⌝ }
     ensures { λ r. ⌜ r ≡ listed (seen (now (bytes .entry)) (now (sheet .entry))) t ⌝ }
 {

@@ -15,7 +15,7 @@ use gus::Course;
 // job of each round.
 pub(crate) fn walk<'a>(
     bytes: &'a [u8],
-    sheet: &'a [u32; 256],
+    sheet: &'a [u32; 288],
     members: &'a [u8; 32],
     from: usize,
     t: u32,

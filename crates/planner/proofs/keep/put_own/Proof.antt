@@ -22,6 +22,12 @@ mode-requires c κs = search needs
 put-requires-3 : tie.Need-put-requires-3
 put-requires-3 c κs = search needs
 
+number-requires : tie.Need-number-requires
+number-requires c κs = search needs
+
+put-requires-4 : tie.Need-put-requires-4
+put-requires-4 c κs = search needs
+
 link-requires : tie.Need-link-requires
 link-requires c κs = search needs
 
@@ -29,7 +35,7 @@ returns : tie.Need-returns
 unfolding owned
 returns c =
     rw
-    (c .link .ensures, c .before .before .put3 .ensures, c .before .before .before .mode .ensures, c .before .before .before .before .before .put2 .ensures, c .before .before .before .before .before .before .time2 .ensures, c .before .before .before .before .before .before .before .before .put .ensures, c .before .before .before .before .before .before .before .before .before .time .ensures)
+    (c .link .ensures, c .before .before .put4 .ensures, c .before .before .before .number .ensures, c .before .before .before .before .before .put3 .ensures, c .before .before .before .before .before .before .mode .ensures, c .before .before .before .before .before .before .before .before .put2 .ensures, c .before .before .before .before .before .before .before .before .before .time2 .ensures, c .before .before .before .before .before .before .before .before .before .before .before .put .ensures, c .before .before .before .before .before .before .before .before .before .before .before .before .time .ensures)
 
 pub put-own-spec : {M : Type 1} → statement M
 put-own-spec =
@@ -41,5 +47,7 @@ put-own-spec =
     put-requires-2
     mode-requires
     put-requires-3
+    number-requires
+    put-requires-4
     link-requires
     returns)

@@ -7,10 +7,10 @@ use Rattle.planner.proofs.keep.settle_rows.Statement.{statement}
 use Rattle.planner.proofs.keep.settle_rows.Tie as tie
 
 abbrev Inv-loop : tie.InvT-loop
-Inv-loop sheet₀ asks₀ v count k₀ sheet asks k = Sending v sheet₀ asks₀ sheet asks k
+Inv-loop sheet₀ v count k₀ sheet k = Sending v sheet₀ sheet k
 
 abbrev μ-loop : tie.MeasureT-loop
-μ-loop sheet₀ asks₀ v count k₀ sheet asks k = count - k
+μ-loop sheet₀ v count k₀ sheet k = count - k
 
 loop-holds : tie.Need-loop-holds Inv-loop μ-loop
 loop-holds c = sending-begin (c .pre)
@@ -23,9 +23,6 @@ cast-victim c = omega (arith, c .before .before .before .pre .jobs (c .before .b
 
 send-row-requires : tie.Need-send-row-requires Inv-loop μ-loop
 send-row-requires c κs = omega (arith, c .before .before .before .before .pre .jobs (c .before .before .before .loop .k))
-
-element-write-asks : tie.Need-element-write-asks Inv-loop μ-loop
-element-write-asks c = omega (arith, c .before .before .before .before .before .pre .jobs (c .before .before .before .before .loop .k))
 
 add-k : tie.Need-add-k Inv-loop μ-loop
 add-k c = search needs
@@ -49,7 +46,6 @@ settle-rows-spec =
     element-copy-out-victim
     cast-victim
     send-row-requires
-    element-write-asks
     add-k
     loop-less
     loop-again

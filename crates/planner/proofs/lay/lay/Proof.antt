@@ -1,21 +1,24 @@
--- `planner::lay::lay` meets its contract.
-use mathlib.Core.Path.{_∙_}
+-- `planner::lay::lay` meets its contract: row by row.
+use mathlib.Core.Path.{sym, _∙_}
 use mathlib.Core.Logic.{⊎-elim}
+use Rattle.laws.specs.Count.{Counting, count-begin, count-next, count-ended}
+use Rattle.planner.specs.RowLaid.{rowFrom, row-laid, row-vacant}
 use Rattle.planner.specs.RowRight.{row-there}
-use Rattle.planner.specs.Laying.{Laying, size-small, laying-begin, laying-job, laying-none, laying-ended}
+use Rattle.planner.specs.Laying.{size-small}
 use borrow.Author.Needs.{needs}
 use Prim.Native.Nat.{_-_}
+use lib.ListN.{replicate}
 use Rattle.planner.proofs.lay.lay.Statement.{statement}
 use Rattle.planner.proofs.lay.lay.Tie as tie
 
 abbrev Inv-loop : tie.InvT-loop
-Inv-loop bytes starts holders n sheet₀ i₀ sheet i = Laying bytes i sheet
+Inv-loop bytes starts holders n sheet₀ i₀ sheet i = Counting (rowFrom bytes starts holders n) 32 (replicate 288 0) sheet i
 
 abbrev μ-loop : tie.MeasureT-loop
 μ-loop bytes starts holders n sheet₀ i₀ sheet i = 32 - i
 
 loop-holds : tie.Need-loop-holds Inv-loop μ-loop
-loop-holds c = laying-begin _ (c .before .pre .blank)
+loop-holds c = rw (c .before .pre .blank) count-begin
 
 lay-row-requires : tie.Need-lay-row-requires Inv-loop μ-loop
 lay-row-requires c κs =
@@ -23,8 +26,8 @@ lay-row-requires c κs =
     let st = x .before .pre .standing in
     row-there st (size-small _ (st .accepted) (λ i. x .shared-slice-known .given i .fits)) (c .before .if1 .taken)
 
-put-requires : tie.Need-put-requires Inv-loop μ-loop
-put-requires c κs = search needs
+lay-vacant-requires : tie.Need-lay-vacant-requires Inv-loop μ-loop
+lay-vacant-requires c κs = search needs
 
 add-i : tie.Need-add-i Inv-loop μ-loop
 add-i c = search needs
@@ -33,15 +36,14 @@ loop-less : tie.Need-loop-less Inv-loop μ-loop
 loop-less c = search needs
 
 loop-again : tie.Need-loop-again Inv-loop μ-loop
-loop-again c =
-    let st = c .before .before .before .before .pre .standing in
+loop-again c = count-next (c .before .before .loop .inv) (c .before .loop-test .taken) (
     ⊎-elim
-    (λ w. laying-job st (c .before .before .loop .inv) (w .0 .taken) (w .3 ∙ w .2 .ensures))
-    (λ w. laying-none st (c .before .before .loop .inv) (c .before .loop-test .taken) (w .0 .left) (w .3 ∙ w .2 .ensures))
-    (c .if1 .came)
+    (λ w. w .3 ∙ w .2 .ensures ∙ sym (row-laid _ _ _ _ (w .0 .taken)))
+    (λ w. w .3 ∙ w .2 .ensures ∙ sym (row-vacant _ _ _ _ (w .0 .left)))
+    (c .if1 .came))
 
 returns : tie.Need-returns Inv-loop μ-loop
-returns c = laying-ended (c .before .loop .inv) (c .loop-test .left)
+returns c = count-ended (c .before .loop .inv) (c .loop-test .left)
 
 pub lay-spec : {M : Type 1} → statement M
 lay-spec =
@@ -51,7 +53,7 @@ lay-spec =
     μ-loop
     loop-holds
     lay-row-requires
-    put-requires
+    lay-vacant-requires
     add-i
     loop-less
     loop-again

@@ -6,7 +6,7 @@ use Rattle.planner.proofs.plan.plan_accepted.Statement.{statement}
 use Rattle.planner.proofs.plan.plan_accepted.Tie as tie
 
 prepare-requires : tie.Need-prepare-requires
-prepare-requires c κs = record { accepted = c .before .before .before .pre; sheet-blank = refl; asks-blank = refl }
+prepare-requires c κs = record { accepted = c .before .before .pre; blank = refl }
 
 cast-refused-plan : tie.Need-cast-refused-plan
 cast-refused-plan c = search needs
@@ -16,11 +16,11 @@ refused-plan-requires c κs = search needs
 
 returns : tie.Need-returns
 returns c =
-    let s = c .before .before .before .before .before .before .before .before in
+    let s = c .before .before .before .before .before .before .before in
     knotted-plan (s .args .bytes .now) (s .pre) (c .before .before .before .before .prepare .ensures) (c .before .before .if1 .taken) (c .refused-plan .ensures)
 
 plan-rounds-requires : tie.Need-plan-rounds-requires
-plan-rounds-requires c κs = let s = c .before .before .before .before .before .before .before .before in record { accepted = s .pre; prepared = c .before .before .before .before .prepare .ensures; free = c .before .before .if1 .left }
+plan-rounds-requires c κs = let s = c .before .before .before .before .before .before in record { accepted = s .pre; prepared = c .before .before .before .prepare .ensures; free = c .before .if1 .left }
 
 plan-of-requires : tie.Need-plan-of-requires
 plan-of-requires c κs = search needs

@@ -8,13 +8,13 @@ first-state-requires c κs = let y = c .before .pre in record { accepted = y .ac
 
 rounds-requires : tie.Need-rounds-requires
 rounds-requires c κs =
-    let s = c .before .before .before .before in
-    rounds-start (s .args .bytes .now) (s .pre .accepted) (s .pre .prepared) (s .pre .free) (c .before .before .first-state .ensures)
+    let s = c .before .before in
+    rounds-start (s .args .bytes .now) (s .pre .accepted) (s .pre .prepared) (s .pre .free) (c .first-state .ensures)
 
 returns : tie.Need-returns
 returns c =
-    let s = c .before .before .before .before .before in
-    planned-is (s .args .bytes .now) (s .pre .accepted) (s .pre .prepared) (s .pre .free) (c .before .before .before .first-state .ensures) (c .rounds .ensures)
+    let s = c .before .before .before in
+    planned-is (s .args .bytes .now) (s .pre .accepted) (s .pre .prepared) (s .pre .free) (c .before .first-state .ensures) (c .rounds .ensures)
 
 pub plan-rounds-spec : {M : Type 1} → statement M
 plan-rounds-spec = tie.close (tie.spec first-state-requires rounds-requires returns)

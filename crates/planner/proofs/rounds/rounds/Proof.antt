@@ -1,5 +1,6 @@
--- `planner::rounds::rounds` meets its contract: the plan so far, joined with the rounds left, is the whole plan, and the sheet shows the jobs.
+-- `planner::rounds::rounds` meets its contract: the plan so far, joined with the rounds left, is the whole plan, and the state is the one that the rounds reach.
 use mathlib.Core.Path.{_≡_, refl, sym, _∙_}
+use mathlib.Core.Bool.{true≢false}
 use mathlib.Core.List.{List}
 use mir.Syntax.{w32}
 use mir.Val.{toZ, ofZ}
@@ -13,21 +14,22 @@ use borrow.Author.Needs.{needs}
 use Rattle.laws.specs.Signed.{fits-abs}
 use Rattle.laws.specs.Fill.{padded}
 use Rattle.gus.specs.declared.Part.{Part}
+use Rattle.gus.specs.State.{workedBy}
 use Rattle.gus.specs.View.{Pay}
 use Rattle.gus.specs.Choice.{byDensity}
 use Rattle.gus.specs.Round.{rounds}
 use Rattle.invariants.specs.Fair.{by-density-fair}
 use Rattle.invariants.specs.Replay.{runs-replay}
-use Rattle.opening.specs.declared.State.{State}
+use Rattle.planner.specs.declared.State.{State}
 use Rattle.planner.specs.LaidOut.{laidOut}
 use Rattle.planner.specs.Applied.{noPart}
 use Rattle.planner.specs.Applying.{made, worked-by}
-use Rattle.planner.specs.Stage.{Stage, opening, roundAt}
+use Rattle.planner.specs.Stage.{Stage, opening, roundAt, stageAfter}
 use Rattle.planner.specs.Fitting.{Fitting, sane-modest, round-runs}
 use Rattle.planner.specs.Joining.{Joinable, fitting-moment, some-parts, no-parts, joinable, group-parts, group-length, round-joined}
 use Rattle.planner.specs.Staged.{staged-begin, staged-stopped, staged-next, staged-ended}
 use Rattle.planner.specs.Shown.{payIn, shown-scanning, shown-round}
-use Rattle.planner.specs.Working.{Going, Working, working-begin, working-proper, working-next, working-ended}
+use Rattle.planner.specs.Working.{Going, Working, working-begin, working-rework, working-next, working-ended, reached-next}
 use Rattle.planner.proofs.rounds.rounds.Statement.{statement}
 use Rattle.planner.proofs.rounds.rounds.Tie as tie
 
@@ -36,24 +38,24 @@ abbrev stageOf : State → List Part → ℕ → ℕ → ℕ → ℕ → Stage
 stageOf state plan count total moment i = record { state = state; parts = plan; count = count; rounds = i; total = toZ w32 total; moment = moment }
 
 abbrev Inv-loop2 : tie.InvT-loop2
-Inv-loop2 bytes sheet₀ asks₀ n t state₀ plan₀ count total moment i g parts course k₀ sheet asks state plan k =
-    Working bytes n (take (g .count) parts) state₀ plan₀ count state sheet asks plan k
+Inv-loop2 bytes n t state₀ plan₀ asking₀ count total moment i g parts course k₀ state plan asking k =
+    Working bytes n (take (g .count) parts) state₀ plan₀ count state asking plan k
 
 abbrev μ-loop2 : tie.MeasureT-loop2
-μ-loop2 bytes sheet₀ asks₀ n t state₀ plan₀ count total moment i g parts course k₀ sheet asks state plan k = g .count - k
+μ-loop2 bytes n t state₀ plan₀ asking₀ count total moment i g parts course k₀ state plan asking k = g .count - k
 
 abbrev Inv-loop : tie.InvT-loop
-Inv-loop bytes sheet₀ asks₀ n t state₀ plan₀ count₀ total₀ moment₀ i₀ sheet asks state plan count total moment i =
-    Going bytes n (rounds 32 byDensity (payIn bytes) (state₀ .jobs) t) (stageOf state plan count total moment i) sheet asks i
+Inv-loop bytes n t state₀ plan₀ asking₀ count₀ total₀ moment₀ i₀ state plan asking count total moment i =
+    Going bytes n (rounds 32 byDensity (payIn bytes) (state₀ .jobs) t) (opening state₀ t) (stageOf state plan count total moment i) asking i
 
 abbrev μ-loop : tie.MeasureT-loop
-μ-loop bytes sheet₀ asks₀ n t state₀ plan₀ count₀ total₀ moment₀ i₀ sheet asks state plan count total moment i = 32 - i
+μ-loop bytes n t state₀ plan₀ asking₀ count₀ total₀ moment₀ i₀ state plan asking count total moment i = 32 - i
 
 loop-holds : tie.Need-loop-holds Inv-loop2 μ-loop2 Inv-loop μ-loop
-unfolding opening padded
+unfolding opening padded stageAfter
 loop-holds c =
     let y = c .before .pre in
-    record { within = omega arith; staged = staged-begin (y .sane) (y .now); idle = y .idle; rows = y .rows }
+    record { within = omega arith; staged = staged-begin (y .sane) (y .now); reached = refl; idle = y .idle; kept = y .kept; quiet = λ e. absurd (true≢false e) }
 
 -- a turn of the outer loop: the lent curves, the stage that it starts from, and that a round may start there
 module _ (turn : tie.In-loop Inv-loop2 μ-loop2 Inv-loop μ-loop) where
@@ -74,20 +76,20 @@ module _ (turn : tie.In-loop Inv-loop2 μ-loop2 Inv-loop μ-loop) where
 
 round-requires : tie.Need-round-requires Inv-loop2 μ-loop2 Inv-loop μ-loop
 round-requires c κs =
-    let h = head (c .before) in
+    let h = head (c .before .before) in
     let y = h .before .before .pre in
-    let f = fits (c .before) in
-    shown-scanning (bytes (c .before)) (y .accepted) (f .jobs .ready .sound) (h .loop .inv .rows) (sane-modest (f .jobs)) (h .loop .inv .idle) (y .few) (fitting-moment f)
+    let f = fits (c .before .before) in
+    shown-scanning (bytes (c .before .before)) (y .accepted) (f .jobs .ready .sound) (h .loop .inv .kept .rows) (sane-modest (f .jobs)) (h .loop .inv .idle) (y .few) (fitting-moment f)
 
 -- after a round is made: its group is the definition's
 module _ (c : tie.After-round Inv-loop2 μ-loop2 Inv-loop μ-loop) where
   abbrev turn : tie.In-loop Inv-loop2 μ-loop2 Inv-loop μ-loop
-  turn = c .before .before
+  turn = c .before .before .before
 
   same-group : c .round .result ≡ laidOut (roundAt byDensity (pay turn) (stage turn))
   same-group =
       let h = head turn in
-      shown-round (bytes turn) (h .before .before .pre .accepted) (fits turn .jobs .ready .sound) (h .loop .inv .rows) byDensity (stage turn .moment) (c .round .ensures)
+      shown-round (bytes turn) (h .before .before .pre .accepted) (fits turn .jobs .ready .sound) (h .loop .inv .kept .rows) byDensity (stage turn .moment) (c .round .ensures)
 
 returns : tie.Need-returns Inv-loop2 μ-loop2 Inv-loop μ-loop
 returns c =
@@ -122,7 +124,7 @@ module _ (c : tie.Else1 Inv-loop2 μ-loop2 Inv-loop μ-loop) where
 loop2-holds : tie.Need-loop2-holds Inv-loop2 μ-loop2 Inv-loop μ-loop
 loop2-holds c =
     let h = from c in
-    working-begin (fits h .jobs .ready .sound) (rw (group-parts byDensity (pay h) (stage h) (same-group (made-round c))) (runs-replay (round-runs by-density-fair (fits h) (some c)))) (head h .loop .inv .idle) (head h .loop .inv .rows)
+    working-begin (fits h .jobs .ready .sound) (rw (group-parts byDensity (pay h) (stage h) (same-group (made-round c))) (runs-replay (round-runs by-density-fair (fits h) (some c)))) (head h .loop .inv .idle) (head h .loop .inv .kept) (head h .loop .inv .quiet)
 
 -- a turn of the inner loop: part k of the group
 module _ (c : tie.Then2 Inv-loop2 μ-loop2 Inv-loop μ-loop) where
@@ -167,11 +169,22 @@ mul-new c = let w = c .before .before in record { fits = omega (arith, w .wide .
 element-set-from-new : tie.Need-element-set-from-new Inv-loop2 μ-loop2 Inv-loop μ-loop
 element-set-from-new c = let w = c .before .before in omega (arith, w .wide .ensures, job-below (w .before))
 
+-- the job as the code works it is the definition's
+module _ (c : tie.After-worked-job Inv-loop2 μ-loop2 Inv-loop μ-loop) where
+  worked-part : c .worked-job .result ≡ workedBy (at-part (c .before .before .before .before) .loop2 .state .jobs) (part (c .before .before .before))
+  worked-part =
+      let p = c .before .before .before in
+      let t = p .before in
+      worked-by (at-part t .loop2 .state .jobs) (part p) (job-below p) (at-part t .loop2 .inv .sound .size) (c .before .before .wide .ensures) (c .worked-job .ensures)
+
 holders-after-requires : tie.Need-holders-after-requires Inv-loop2 μ-loop2 Inv-loop μ-loop
 holders-after-requires c κs = search needs
 
 put-worked-requires : tie.Need-put-worked-requires Inv-loop2 μ-loop2 Inv-loop μ-loop
-put-worked-requires c κs = let p = c .before .before .before .before .before .before .before .before in (job-below p, head (from (group (p .before))) .before .before .pre .few)
+put-worked-requires c κs =
+    let p = c .before .before .before .before .before .before .before in
+    let t = p .before in
+    working-rework (at-part t .loop2 .inv) (part p) (head (from (group t)) .before .before .pre .few) (job-below p) (worked-part (c .before .before .before .before))
 
 -- where the part goes in the plan
 module _ (c : tie.After-p Inv-loop2 μ-loop2 Inv-loop μ-loop) where
@@ -179,32 +192,31 @@ module _ (c : tie.After-p Inv-loop2 μ-loop2 Inv-loop μ-loop) where
   room = omega (arith, can-join (group (c .before)) .room, c .before .if2 .taken)
 
 add-plan : tie.Need-add-plan Inv-loop2 μ-loop2 Inv-loop μ-loop
-add-plan c = record { fits = omega (arith, room (c .before .before .before .before .before .before .before .before .before)) }
+add-plan c = record { fits = omega (arith, room (c .before .before .before .before .before .before .before .before)) }
 
 mul-plan : tie.Need-mul-plan Inv-loop2 μ-loop2 Inv-loop μ-loop
-mul-plan c = record { fits = omega (arith, room (c .before .before .before .before .before .before .before .before .before)) }
+mul-plan c = record { fits = omega (arith, room (c .before .before .before .before .before .before .before .before)) }
 
 array-set-from-plan : tie.Need-array-set-from-plan Inv-loop2 μ-loop2 Inv-loop μ-loop
-array-set-from-plan c = omega (arith, room (c .before .before .before .before .before .before .before .before .before))
+array-set-from-plan c = omega (arith, room (c .before .before .before .before .before .before .before .before))
 
 add-k : tie.Need-add-k Inv-loop2 μ-loop2 Inv-loop μ-loop
-add-k c = record { fits = omega (arith, room (c .before .before .before .before .before .before .before .before .before)) }
+add-k c = record { fits = omega (arith, room (c .before .before .before .before .before .before .before .before)) }
 
 loop2-less : tie.Need-loop2-less Inv-loop2 μ-loop2 Inv-loop μ-loop
-loop2-less c = omega (arith, c .before .before .before .before .before .before .before .before .before .before .if2 .taken)
+loop2-less c = omega (arith, c .before .before .before .before .before .before .before .before .before .if2 .taken)
 
 loop2-again : tie.Need-loop2-again Inv-loop2 μ-loop2 Inv-loop μ-loop
 loop2-again c =
-    let p = c .before .before .before .before .before .before .before .before .before in
+    let p = c .before .before .before .before .before .before .before .before in
     let t = p .before in
     let w = at-part t .loop2 .inv in
     let g = made-round (group t) .round .result in
     let s = at-part t .loop2 .state in
     let same : part p ≡ getD (parts-of (group t)) (at-part t .loop2 .k) noPart = sym (getD-take (g .count) (g .parts) (at-part t .loop2 .k) noPart (t .if2 .taken)) in
-    let job = worked-by (s .jobs) (part p) (job-below p) (w .sound .size) (c .before .before .before .before .before .before .before .before .wide .ensures) (c .before .before .before .before .before .before .worked-job .ensures) in
     working-next w (more t) same
-    (made s (part p) (job-below p) (w .sound .size) (c .before .before .before .before .before .before .before .before .wide .ensures) (c .before .before .before .before .before .before .worked-job .ensures) (c .before .before .before .holders-after .ensures))
-    (c .put-worked .ensures .rows (part p) (w .sound) (rw same (working-proper w (more t))) (w .idle) refl job (w .rows))
+    (made s (part p) (job-below p) (w .sound .size) (c .before .before .before .before .before .before .before .wide .ensures) (c .before .before .before .before .before .worked-job .ensures) (c .before .before .holders-after .ensures) (c .put-worked .ensures .0))
+    (c .put-worked .ensures .1)
 
 add-count : tie.Need-add-count Inv-loop2 μ-loop2 Inv-loop μ-loop
 add-count c = record { fits = omega (arith, can-join (c .before .before .before .before) .room) }
@@ -240,11 +252,14 @@ loop-again c =
     let w = c .before .before .before .before .before .before .loop2 .inv in
     let done = working-ended w (omega (arith, parts-long e, c .before .before .before .before .if2 .left)) in
     let one-more : 32 - head h .loop .i ≡ suc (32 - (head h .loop .i + 1)) = omega (arith, h .loop-test .taken) in
+    let joined = round-joined byDensity (pay h) (stage h) (same-group (made-round e)) (done .0) (done .1) (total-is (c .before)) in
     record {
       within = omega (arith, h .loop-test .taken);
-      staged = staged-next (rw one-more at (head h .loop .inv .staged)) by-density-fair (some e) (round-joined byDensity (pay h) (stage h) (same-group (made-round e)) (done .0) (done .1) (total-is (c .before)));
+      staged = staged-next (rw one-more at (head h .loop .inv .staged)) by-density-fair (some e) joined;
+      reached = reached-next (bytes h) (opening (head h .before .before .args .start) (head h .before .before .args .t)) (head h .loop .i) (head h .loop .inv .reached) (some e) joined;
       idle = w .idle;
-      rows = w .rows;
+      kept = w .kept;
+      quiet = w .quiet;
     }
 
 returns-2 : tie.Need-returns-2 Inv-loop2 μ-loop2 Inv-loop μ-loop

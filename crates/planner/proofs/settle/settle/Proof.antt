@@ -9,13 +9,13 @@ use Rattle.planner.proofs.settle.settle.Statement.{statement}
 use Rattle.planner.proofs.settle.settle.Tie as tie
 
 abbrev Inv-loop : tie.InvT-loop
-Inv-loop s₀ v count k₀ s k = Settling v (s₀ .jobs) (s .jobs) k × (s .holders ≡ s₀ .holders)
+Inv-loop s₀ v count k₀ s k = Settling v (s₀ .jobs) (s .jobs) k × (s .holders ≡ s₀ .holders) × (s .sheet ≡ s₀ .sheet)
 
 abbrev μ-loop : tie.MeasureT-loop
 μ-loop s₀ v count k₀ s k = count - k
 
 loop-holds : tie.Need-loop-holds Inv-loop μ-loop
-loop-holds c = (settling-begin (c .pre) (simp length-map at (c .good .0 .1 .1 .0 .1 .0 .1)), refl)
+loop-holds c = (settling-begin (c .pre) (simp length-map at (c .good .0 .1 .1 .0 .1 .0 .1)), refl, refl)
 
 element-copy-out-victim : tie.Need-element-copy-out-victim Inv-loop μ-loop
 element-copy-out-victim c = omega (arith, c .before .before .pre .few)
@@ -47,13 +47,13 @@ loop-less c = search needs
 loop-again : tie.Need-loop-again Inv-loop μ-loop
 loop-again c =
     let l = c .before .before .before .before in
-    (settling-next (l .before .pre) (l .loop .inv .0) (c .before .before .before .loop-test .taken) (c .sent-back .ensures), l .loop .inv .1)
+    (settling-next (l .before .pre) (l .loop .inv .0) (c .before .before .before .loop-test .taken) (c .sent-back .ensures), l .loop .inv .1, l .loop .inv .2)
 
 returns : tie.Need-returns Inv-loop μ-loop
 returns c =
     let i = c .before .loop .inv in
     let jobs = settling-ended (c .before .before .pre) (i .0) (c .loop-test .left) in
-    λ k. record { jobs = jobs k; holders = i .1 k }
+    λ k. record { jobs = jobs k; holders = i .1 k; sheet = i .2 k }
 
 pub settle-spec : {M : Type 1} → statement M
 settle-spec =

@@ -25,7 +25,7 @@ number-requires c κs = search needs
 returns : tie.Need-returns
 returns c =
     let a = c .before .before .before .args in
-    c .number .ensures ∙ inside (a .sheet .now) (8 * a .job + 4) 0 255 (omega (arith, c .before .before .all .given .0))
+    c .number .ensures ∙ inside (a .sheet .now) (9 * a .job + 4) 0 255 (omega (arith, c .before .before .all .given .0))
 
 pub waits-of-spec : {M : Type 1} → statement M
 waits-of-spec =

@@ -1,19 +1,19 @@
--- `opening::start::open_state` meets its contract.
+-- `opening::start::open_jobs` meets its contract.
 use mathlib.Core.Path.{ap}
 use Prim.Native.Nat.{_-_}
 use lib.ListN.{set, replicate}
 use borrow.Author.Needs.{needs}
 use Rattle.laws.specs.Count.{Counting, count-begin, count-next}
 use Rattle.gus.specs.State.{vacant}
-use Rattle.opening.specs.Taken.{jobTaken, state-made}
-use Rattle.opening.proofs.start.open_state.Statement.{statement}
-use Rattle.opening.proofs.start.open_state.Tie as tie
+use Rattle.opening.specs.Taken.{jobTaken, jobs-made}
+use Rattle.opening.proofs.start.open_jobs.Statement.{statement}
+use Rattle.opening.proofs.start.open_jobs.Tie as tie
 
 abbrev Inv-loop : tie.InvT-loop
-Inv-loop s starts holders jobs taken₀ count i₀ taken i = Counting (jobTaken s starts) count (replicate 32 vacant) taken i
+Inv-loop s starts jobs taken₀ count i₀ taken i = Counting (jobTaken s starts) count (replicate 32 vacant) taken i
 
 abbrev μ-loop : tie.MeasureT-loop
-μ-loop s starts holders jobs taken₀ count i₀ taken i = count - i
+μ-loop s starts jobs taken₀ count i₀ taken i = count - i
 
 at-most-32-requires : tie.Need-at-most-32-requires Inv-loop μ-loop
 at-most-32-requires c κs = search needs
@@ -48,10 +48,10 @@ loop-again c = count-next (c .before .before .before .loop .inv) (c .before .bef
 returns : tie.Need-returns Inv-loop μ-loop
 returns c =
     let a = c .before .before .before .before .args in
-    state-made (a .s .now) (a .starts .now) (a .holders) (a .jobs) (c .before .before .at-most-32 .ensures) (c .before .loop .inv) (c .loop-test .left)
+    jobs-made (a .s .now) (a .starts .now) (a .jobs) (c .before .before .at-most-32 .ensures) (c .before .loop .inv) (c .loop-test .left)
 
-pub open-state-spec : {M : Type 1} → statement M
-open-state-spec =
+pub open-jobs-spec : {M : Type 1} → statement M
+open-jobs-spec =
     tie.close
     (tie.spec
     Inv-loop
