@@ -87,8 +87,13 @@ holder-same (j ∷ js) (j′ ∷ js′) r i z h = elim (decLt 0 (holdOf j r)) [
   | no l ↦ miss j′ js′ r i (omega (arith, h 0)) ∙ holder-same js js′ r (suc i) (omega arith) (λ k. h (suc k)) ∙ sym (miss j js r i (omega arith))
 ]
 
--- THE ARRAY OF HOLDERS after a part: what its job holds now is its own, and what it held and holds no more is nobody's.
-pub holder-step : {js : List Job} {p : Part} → Sound js → Proper js p → (r : ℕ) → holderOf (after js p) r ≡ cond (ltb 0 (holdOf (workedBy js p) r)) (p .job) (cond (eqb (holderOf js r) (p .job)) nobody (holderOf js r))
+-- who holds a resource after a part of a job that then has this hold of it:
+-- that job where it has one; nobody where it had one and gave it up; else whoever held it
+abbrev pub holderAfter : ℕ → ℕ → ℕ → ℕ
+holderAfter job hold holder = cond (ltb 0 hold) job (cond (eqb holder job) nobody holder)
+
+-- THE HOLDER OF A RESOURCE AFTER A PART
+pub holder-step : {js : List Job} {p : Part} → Sound js → Proper js p → (r : ℕ) → holderOf (after js p) r ≡ holderAfter (p .job) (holdOf (workedBy js p) r) (holderOf js r)
 holder-step {js} {p} s g r = elim (decLt 0 (holdOf (workedBy js p) r)) [
   | yes h ↦ rw (lt-ltb 0 (holdOf (workedBy js p) r) h) (holder-is (sound-after s g) (p .job) r (omega (arith, ap (λ (j : Job). holdOf j r) (at-same s g))))
   | no h ↦ rw (le-ltb 0 (holdOf (workedBy js p) r) (omega arith)) (elim (holder js r) [

@@ -10,9 +10,11 @@ use lib.Seq.{getD-set-same, getD-set-other}
 use Rattle.job.specs.declared.Job.{Job}
 use Rattle.job.specs.Job.{holdOf}
 use Rattle.gus.specs.State.{vacant, jobAt}
-use Rattle.gus.specs.Waits.{holderOf}
+use Rattle.gus.specs.Waits.{nobody, holderOf, waitsFor}
 use Rattle.gus.specs.Victims.{sentBack, settled}
+use Rattle.invariants.specs.Sound.{Sound}
 use Rattle.invariants.specs.Holders.{holder-same}
+use Rattle.invariants.specs.Waiting.{holder-past}
 use Rattle.laws.specs.Among.{Among, among-or-not}
 
 pub settled-size : (js : List Job) (is : List ℕ) → length (settled js is) ≡ length js
@@ -62,3 +64,14 @@ settled-keeps f same js is k = elim (decLt k (length js)) [
 -- so the array of holders does not change
 pub holder-settled : (js : List Job) (is : List ℕ) (r : ℕ) → holderOf (settled js is) r ≡ holderOf js r
 holder-settled js is r = holder-same js (settled js is) r 0 (settled-size js is) (λ k. settled-keeps (λ j. holdOf j r) (λ j. refl) js is k)
+
+-- R-6, WHOM JOB I WAITS FOR AFTER THE VICTIMS: a victim for nobody, and each other job for whom it waited for
+module _ {js : List Job} (s : Sound js) (is : List ℕ) (i : ℕ) where
+  pub waits-victim : i < 32 → Among i is → waitsFor (settled js is) i ≡ nobody
+  waits-victim l a =
+      ap (λ (j : Job). holderOf (settled js is) (j .request .resource)) (settled-back js is i (omega (arith, s .size)) a)
+      ∙ holder-settled js is nobody
+      ∙ holder-past s nobody (omega arith)
+
+  pub waits-other : (Among i is → ⊥) → waitsFor (settled js is) i ≡ waitsFor js i
+  waits-other a = ap (λ (j : Job). holderOf (settled js is) (j .request .resource)) (settled-other js is i a) ∙ holder-settled js is (jobAt js i .request .resource)

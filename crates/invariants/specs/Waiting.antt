@@ -3,17 +3,21 @@ use Prim.Native.Nat.{ℕ, _<_, _≤_}
 use native.Mathlib.Decide.{ℕ-discrete}
 use native.Mathlib.Omega.{arith}
 use mathlib.Core.Path.{_≡_, sym, ap, _∙_}
+use mathlib.Core.Bool.{cond}
 use mathlib.Core.Logic.{_⊎_, inl, inr}
+use borrow.Author.Tests.{eq-eqb, ne-eqb}
+use lib.Dec.{eqb}
 use mathlib.Core.List.{List}
 use Rattle.laws.specs.Circle.{NoCircle}
 use Rattle.laws.specs.Rewire.{settling}
 use Rattle.job.specs.declared.Job.{Job}
+use Rattle.job.specs.Job.{holdOf}
 use Rattle.gus.specs.declared.Part.{Part}
-use Rattle.gus.specs.State.{jobAt, after}
+use Rattle.gus.specs.State.{jobAt, workedBy, after}
 use Rattle.gus.specs.Waits.{nobody, holderOf, waitsFor}
 use Rattle.invariants.specs.Sound.{Sound, free-past}
 use Rattle.invariants.specs.Proper.{Proper, at-other, at-request, holder-after, sound-after}
-use Rattle.invariants.specs.Holders.{holder, holder-is, holder-free}
+use Rattle.invariants.specs.Holders.{holder, holder-is, holder-free, holderAfter, holder-step}
 
 pub holder-past : {js : List Job} → Sound js → (r : ℕ) → 32 ≤ r → holderOf js r ≡ nobody
 holder-past s r l = holder-free r (free-past s r l)
@@ -21,6 +25,14 @@ holder-past s r l = holder-free r (free-past s r l)
 -- a job without a request waits for nobody
 pub waits-none : {js : List Job} → Sound js → (i : ℕ) → 32 ≤ jobAt js i .request .resource → waitsFor js i ≡ nobody
 waits-none {js} s i l = holder-past s (jobAt js i .request .resource) l
+
+-- R-6, WHOM JOB I WAITS FOR AFTER A PART, "grants, releases, removals and rollbacks" in one law: the part's job waits for nobody, and for each other
+-- job the holder of what it requests changes as any holder does. A removal is no case of its own: who has ended holds nothing.
+pub waits-step : {js : List Job} {p : Part} → Sound js → Proper js p → (i : ℕ) → waitsFor (after js p) i ≡ cond (eqb i (p .job)) nobody (holderAfter (p .job) (holdOf (workedBy js p) (jobAt js i .request .resource)) (waitsFor js i))
+waits-step {js} {p} s g i = elim (ℕ-discrete i (p .job)) [
+  | yes e ↦ rw (eq-eqb i (p .job) e) (ap (waitsFor (after js p)) e ∙ waits-none (sound-after s g) (p .job) (at-request s g))
+  | no ne ↦ rw (ne-eqb i (p .job) ne) (ap (λ (j : Job). holderOf (after js p) (j .request .resource)) (at-other js p i ne) ∙ holder-step s g (jobAt js i .request .resource))
+]
 
 -- Afterwards the part's job waits for nobody, and each other job for whom it waited for, or for nobody, or for that job.
 pub no-circle-after : {js : List Job} {p : Part} → Sound js → Proper js p → NoCircle (waitsFor js) 32 → NoCircle (waitsFor (after js p)) 32

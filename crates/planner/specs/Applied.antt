@@ -1,9 +1,8 @@
 -- The planner's state after a part, and after a row of parts: the jobs as gus has them, and who holds each resource.
 use mathlib.Core.Path.{_≡_}
-use mathlib.Core.Bool.{false, cond}
+use mathlib.Core.Bool.{false}
 use mathlib.Core.List.{List, [], _∷_}
 use Prim.Native.Nat.{ℕ, _<_}
-use lib.Dec.{ltb, eqb}
 use lib.ListN.{length, getD}
 use Rattle.laws.specs.Each.{mapIx, at-mapIx}
 use Rattle.job.specs.declared.Held.{Held}
@@ -11,15 +10,11 @@ use Rattle.job.specs.Held.{free}
 use Rattle.gus.specs.declared.Part.{Part}
 use Rattle.gus.specs.State.{workedBy, after, afterAll}
 use Rattle.gus.specs.Waits.{nobody}
+use Rattle.invariants.specs.Holders.{holderAfter}
 use Rattle.planner.specs.declared.State.{State}
 use Rattle.planner.specs.Putting.{reworked}
 
--- who holds a resource after a part of a job that then has this hold of it:
--- that job where it has one; nobody where it had one and gave it up; else whoever held it
-abbrev pub holderAfter : ℕ → ℕ → ℕ → ℕ
-holderAfter job hold holder = cond (ltb 0 hold) job (cond (eqb holder job) nobody holder)
-
--- the same at every resource, by what the job holds after the part
+-- who holds each resource, by what the job holds after the part
 unfoldable pub holdersAfter : ℕ → List Held → List ℕ → List ℕ
 holdersAfter job held holders = mapIx (λ r. holderAfter job (getD held r free .hold)) holders
 

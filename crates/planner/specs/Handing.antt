@@ -35,11 +35,6 @@ module _ (v : View) (t : ℕ) where
       by true (suc j) = omega arith
       by false j = omega arith
 
-  -- each victim is a job
-  pub victim-listed : (k : ℕ) → getD (victimsOf v t) k 0 < 32
-  unfolding victimsOf
-  victim-listed k = victims-below 32 k
-
   pub listed-handed : Handed (listed v t)
   unfolding listed victimsOf padded
   listed-handed =

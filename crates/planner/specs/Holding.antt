@@ -11,9 +11,9 @@ use Rattle.gus.specs.State.{workedBy}
 use Rattle.gus.specs.Waits.{nobody, holderOf}
 use Rattle.invariants.specs.Sound.{Sound}
 use Rattle.invariants.specs.Proper.{Proper}
-use Rattle.invariants.specs.Holders.{holder-step}
+use Rattle.invariants.specs.Holders.{holderAfter, holder-step}
 use Rattle.planner.specs.declared.State.{State}
-use Rattle.planner.specs.Applied.{holderAfter, holdersAfter, afterPart, holder-after}
+use Rattle.planner.specs.Applied.{holdersAfter, afterPart, holder-after}
 
 pub record Holding (s : State) : Type 0 where
   pub size : length (s .holders) ≡ 32

@@ -1,10 +1,10 @@
 -- R-6: WHAT THE STATE KEEPS OF EACH JOB IS WHAT A FRESH LOOK GIVES, after every victim and after every part.
 use mathlib.Core.Path.{_≡_, sym, ap, _∙_}
-use mathlib.Core.List.{List, []}
-use Prim.Native.Nat.{ℕ, _<_, _≤_}
+use mathlib.Core.List.{List}
+use Prim.Native.Nat.{ℕ, _<_}
 use native.Mathlib.Decide.{decLt}
 use native.Mathlib.Omega.{arith}
-use lib.ListN.{length, getD, List·getD-eq-default}
+use lib.ListN.{getD, List·getD-eq-default}
 use Rattle.job.specs.declared.Job.{Job}
 use Rattle.job.specs.Job.{holdOf, rollbackOf}
 use Rattle.gus.specs.declared.Part.{Part}
@@ -14,7 +14,7 @@ use Rattle.gus.specs.Victims.{settled}
 use Rattle.invariants.specs.Sound.{Sound}
 use Rattle.invariants.specs.Proper.{Proper, sound-after}
 use Rattle.invariants.specs.Replay.{Replay, over, then}
-use Rattle.invariants.specs.Waiting.{holder-past, waits-none}
+use Rattle.invariants.specs.Waiting.{waits-none}
 use Rattle.invariants.specs.Settled.{holder-settled}
 use Rattle.planner.specs.declared.State.{State}
 use Rattle.planner.specs.Sheet.{holdIn, undoIn, waitsIn}
@@ -57,10 +57,10 @@ module _ {bytes : List ℕ} {s : State} (sound : Sound (s .jobs)) (kept : Kept b
 abbrev pub settledIn : State → List ℕ → State
 settledIn s is = record { jobs = settled (s .jobs) is; holders = s .holders; sheet = sentRows is (s .sheet) }
 
-pub kept-settled : {bytes : List ℕ} (s : State) (is : List ℕ) → Sound (s .jobs) → ((k : ℕ) → k < length is → getD is k 0 < 32) → Kept bytes s → Kept bytes (settledIn s is)
-kept-settled s is sound below kept = record {
+pub kept-settled : {bytes : List ℕ} (s : State) (is : List ℕ) → Sound (s .jobs) → Kept bytes s → Kept bytes (settledIn s is)
+kept-settled s is sound kept = record {
   holding = record { size = kept .holding .size; agree = λ r l. kept .holding .agree r l ∙ sym (holder-settled (s .jobs) is r) };
-  rows = rows-settled (sound .size) (holder-past sound nobody (omega arith)) is below (kept .rows);
+  rows = rows-settled sound is (kept .rows);
 }
 
 -- A PART, whatever it does: grants, releases, removals and rollbacks

@@ -26,7 +26,7 @@ use Rattle.planner.specs.Asking.{Scanning}
 use Rattle.planner.specs.Shown.{payIn, Shown, shown-view, shown-scanning}
 use Rattle.planner.specs.Listing.{listed}
 use Rattle.planner.specs.Settling.{Handed, victimsIn}
-use Rattle.planner.specs.Handing.{victim-listed, listed-victims, listed-handed}
+use Rattle.planner.specs.Handing.{listed-victims, listed-handed}
 use Rattle.planner.specs.Putting.{sentRows}
 use Rattle.planner.specs.RowLaid.{laidSheet}
 use Rattle.planner.specs.Laying.{laid-shown}
@@ -128,4 +128,4 @@ module _ (s : List ℕ) (accepted : bookOf s .number ≡ 0) where
   kept-first =
       let b = bookOf s in
       let is : List ℕ = victimsOf (viewFrom b) (b .now) in
-      kept-settled (openedState s) is (accepted-opened s accepted .sound) (λ k l. victim-listed (viewFrom b) (b .now) k) kept-opened
+      kept-settled (openedState s) is (accepted-opened s accepted .sound) kept-opened

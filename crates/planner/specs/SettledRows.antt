@@ -1,89 +1,72 @@
 -- The rows of the victims, written one after the other.
 use mathlib.Core.Path.{_≡_, refl, sym, ap, _∙_}
-use mathlib.Core.Logic.{_≢_}
+use mathlib.Core.Logic.{inl, inr}
 use mathlib.Core.List.{List, [], _∷_}
-use Prim.Native.Nat.{ℕ, suc, _+_, _<_, _≤_}
+use Prim.Native.Nat.{ℕ, _+_, _<_, _≤_}
 use native.Mathlib.Decide.{ℕ-discrete}
 use native.Mathlib.Numerals.{add-one}
 use native.Mathlib.Omega.{arith}
-use lib.ListN.{length, getD, set, drop, length-set}
-use lib.Seq.{drop-length, getD-take, getD-set-same, getD-set-other}
+use lib.ListN.{length, getD, drop}
+use lib.Seq.{drop-length}
+use Rattle.laws.specs.Among.{Among, among-or-not}
 use Rattle.job.specs.declared.Held.{Held}
 use Rattle.job.specs.declared.Job.{Job}
 use Rattle.job.specs.Held.{free}
 use Rattle.job.specs.Job.{heldAt}
-use Rattle.gus.specs.State.{vacant, jobAt}
-use Rattle.gus.specs.Waits.{nobody, holderOf, waitsFor}
+use Rattle.gus.specs.State.{jobAt}
+use Rattle.gus.specs.Waits.{nobody, waitsFor}
 use Rattle.gus.specs.Victims.{sentBack, settled}
 use Rattle.invariants.specs.Sound.{Sound}
-use Rattle.invariants.specs.Holders.{holder-same}
-use Rattle.invariants.specs.Waiting.{holder-past}
+use Rattle.invariants.specs.Settled.{settled-size, settled-other, settled-back, settled-keeps, waits-victim, waits-other}
 use Rattle.planner.specs.declared.Victims.{Victims}
 use Rattle.planner.specs.Settling.{victimsIn, Handed, victims-long, victims-next}
 use Rattle.planner.specs.Places.{Place}
 use Rattle.planner.specs.Rows.{asked, Rows}
 use Rattle.planner.specs.Unheld.{held-nobody}
 use Rattle.planner.specs.Putting.{sentRow, sentRows}
-use Rattle.planner.specs.Row.{RowOf, row-same, sent-row, sent-own, row-of, rows-of}
+use Rattle.planner.specs.Row.{Row, RowOf, row-same, sent-row, sent-own, row-of, rows-of}
 
-abbrev sentAt : List Job → ℕ → List Job
-sentAt js a = set js a (sentBack (jobAt js a))
+-- row i, after each of these was sent back
+module _ (j : Job) {i : ℕ} {place : Place} (l : i < 32) where
+  -- once it is sent back, it stays so
+  still-back : (is : List ℕ) {sheet : List ℕ} → Row (sentBack j) nobody 0 0 place i sheet → Row (sentBack j) nobody 0 0 place i (sentRows is sheet)
+  unfolding sentRows
+  still-back [] r = r
+  still-back (a ∷ is) {sheet} r = still-back is (elim (ℕ-discrete i a) [ yes e ↦ rw (← e) (sent-own l r) | no ne ↦ sent-row a ne r ])
 
--- what is held stays as it is, so one victim more changes its own row alone
-module _ (js : List Job) (size : length js ≡ 32) (none : holderOf js nobody ≡ nobody) (a : ℕ) (below : a < 32) where
-  back-size : length (sentAt js a) ≡ 32
-  back-size = length-set js a (sentBack (jobAt js a)) ∙ size
-
-  back-same : jobAt (sentAt js a) a ≡ sentBack (jobAt js a)
-  back-same = getD-set-same js a (sentBack (jobAt js a)) vacant (omega arith)
-
-  back-other : (i : ℕ) → i ≢ a → jobAt (sentAt js a) i ≡ jobAt js i
-  back-other i ne = getD-set-other js a i (sentBack (jobAt js a)) vacant ne
-
-  back-held : (i : ℕ) → jobAt (sentAt js a) i .held ≡ jobAt js i .held
-  back-held i = elim (ℕ-discrete i a) [
-    | yes e ↦ rw e (ap (λ (j : Job). j .held) back-same)
-    | no ne ↦ ap (λ (j : Job). j .held) (back-other i ne)
+  victim-row : (is : List ℕ) {w h u : ℕ} {sheet : List ℕ} → Among i is → Row j w h u place i sheet → Row (sentBack j) nobody 0 0 place i (sentRows is sheet)
+  unfolding sentRows
+  victim-row [] none r = absurd none
+  victim-row (a ∷ is) among r = elim (ℕ-discrete i a) [
+    | yes e ↦ still-back is (rw (← e) (sent-own l r))
+    | no ne ↦ elim among [ inl e ↦ absurd (ne e) | inr rest ↦ victim-row is rest (sent-row a ne r) ]
   ]
 
-  holder-back : (r : ℕ) → holderOf (sentAt js a) r ≡ holderOf js r
-  holder-back r = holder-same js (sentAt js a) r 0 (back-size ∙ sym size) (λ k. ap (λ (l : List Held). getD l r free .hold) (back-held k))
-
-  module _ {places : ℕ → Place} {sheet : List ℕ} (rows : Rows js places sheet) where
-    row-other : (i : ℕ) → i < 32 → i ≢ a → RowOf (sentAt js a) places i (sentRow a sheet)
-    row-other i l ne = row-same (sent-row a ne (row-of rows i l)) (sym o) (sym q) (ap (λ (h : Held). h .hold) (sym held)) (ap (λ (h : Held). h .rollback) (sym held))
-      where
-        o : jobAt (sentAt js a) i ≡ jobAt js i
-        o = back-other i ne
-
-        q : waitsFor (sentAt js a) i ≡ waitsFor js i
-        q = ap (λ (j : Job). holderOf (sentAt js a) (j .request .resource)) o ∙ holder-back (asked js i)
-
-        held : heldAt (jobAt (sentAt js a) (waitsFor (sentAt js a) i)) (asked (sentAt js a) i) ≡ heldAt (jobAt js (waitsFor js i)) (asked js i)
-        held =
-            ap (λ (x : ℕ). heldAt (jobAt (sentAt js a) x) (asked (sentAt js a) i)) q
-            ∙ ap (λ (j : Job). heldAt (jobAt (sentAt js a) (waitsFor js i)) (j .request .resource)) o
-            ∙ ap (λ (l : List Held). getD l (asked js i) free) (back-held (waitsFor js i))
-
-    row-own : RowOf (sentAt js a) places a (sentRow a sheet)
-    row-own = row-same (sent-own below (row-of rows a below)) (sym back-same) (sym q) (ap (λ (h : Held). h .hold) (sym held)) (ap (λ (h : Held). h .rollback) (sym held))
-      where
-        q : waitsFor (sentAt js a) a ≡ nobody
-        q = ap (λ (j : Job). holderOf (sentAt js a) (j .request .resource)) back-same ∙ holder-back nobody ∙ none
-
-        held : heldAt (jobAt (sentAt js a) (waitsFor (sentAt js a) a)) (asked (sentAt js a) a) ≡ free
-        held = ap (λ (x : ℕ). heldAt (jobAt (sentAt js a) x) (asked (sentAt js a) a)) q ∙ held-nobody (sentAt js a) back-size (asked (sentAt js a) a)
-
-    rows-back : Rows (sentAt js a) places (sentRow a sheet)
-    rows-back = rows-of (λ i l. elim (ℕ-discrete i a) [ yes e ↦ rw e row-own | no ne ↦ row-other i l ne ])
+  other-row : (is : List ℕ) {w h u : ℕ} {sheet : List ℕ} → (Among i is → ⊥) → Row j w h u place i sheet → Row j w h u place i (sentRows is sheet)
+  unfolding sentRows
+  other-row [] none r = r
+  other-row (a ∷ is) none r = other-row is (λ x. none (inr x)) (sent-row a (λ e. none (inl e)) r)
 
 -- THE SHEET AFTER THE VICTIMS is the rows of the settled jobs
-pub rows-settled : {js : List Job} {places : ℕ → Place} {sheet : List ℕ} → length js ≡ 32 → holderOf js nobody ≡ nobody → (is : List ℕ) → ((k : ℕ) → k < length is → getD is k 0 < 32) → Rows js places sheet → Rows (settled js is) places (sentRows is sheet)
-unfolding settled sentRows
-rows-settled size none [] all rows = rows
-rows-settled {js} size none (i ∷ is) all rows =
-    let l : i < 32 = all 0 (omega arith) in
-    rows-settled (back-size js size none i l) (holder-back js size none i l nobody ∙ none) is (λ k h. all (suc k) (omega arith)) (rows-back js size none i l rows)
+pub rows-settled : {js : List Job} {places : ℕ → Place} {sheet : List ℕ} → Sound js → (is : List ℕ) → Rows js places sheet → Rows (settled js is) places (sentRows is sheet)
+rows-settled {js} {places} {sheet} s is rows = rows-of (λ i l. elim (among-or-not i is) [ inl a ↦ victim i l a | inr a ↦ other i l a ])
+  where
+    victim : (i : ℕ) → i < 32 → Among i is → RowOf (settled js is) places i (sentRows is sheet)
+    victim i l a =
+        let q : waitsFor (settled js is) i ≡ nobody = waits-victim s is i l a in
+        let held : heldAt (jobAt (settled js is) (waitsFor (settled js is) i)) (asked (settled js is) i) ≡ free =
+        ap (λ (x : ℕ). heldAt (jobAt (settled js is) x) (asked (settled js is) i)) q ∙ held-nobody (settled js is) (settled-size js is ∙ s .size) (asked (settled js is) i) in
+        row-same (victim-row (jobAt js i) l is a (row-of rows i l)) (sym (settled-back js is i (omega (arith, s .size)) a)) (sym q) (ap (λ (x : Held). x .hold) (sym held)) (ap (λ (x : Held). x .rollback) (sym held))
+
+    other : (i : ℕ) → i < 32 → (Among i is → ⊥) → RowOf (settled js is) places i (sentRows is sheet)
+    other i l a =
+        let same : jobAt (settled js is) i ≡ jobAt js i = settled-other js is i a in
+        let q : waitsFor (settled js is) i ≡ waitsFor js i = waits-other s is i a in
+        let held : heldAt (jobAt (settled js is) (waitsFor (settled js is) i)) (asked (settled js is) i) ≡ heldAt (jobAt js (waitsFor js i)) (asked js i) =
+        ap (λ (x : ℕ). heldAt (jobAt (settled js is) x) (asked (settled js is) i)) q
+        ∙ ap (λ (j : Job). heldAt (jobAt (settled js is) (waitsFor js i)) (j .request .resource)) same
+        ∙ settled-keeps (λ j. heldAt j (asked js i)) (λ j. refl) js is (waitsFor js i) in
+        row-same (other-row (jobAt js i) l is a (row-of rows i l)) (sym same) (sym q) (ap (λ (x : Held). x .hold) (sym held)) (ap (λ (x : Held). x .rollback) (sym held))
 
 -- The loop's whole invariant: what is left of the victims leads to where all of them lead.
 pub record Sending (v : Victims) (sheet₀ sheet : List ℕ) (k : ℕ) : Type 0 where

@@ -15,11 +15,10 @@ use Rattle.job.specs.Held.{free}
 use Rattle.job.specs.Job.{heldAt, holdOf, rollbackOf}
 use Rattle.gus.specs.declared.Part.{Part}
 use Rattle.gus.specs.State.{jobAt, workedBy, after}
-use Rattle.gus.specs.Waits.{nobody, holderOf, waitsFor}
+use Rattle.gus.specs.Waits.{nobody, waitsFor}
 use Rattle.invariants.specs.Sound.{Sound}
 use Rattle.invariants.specs.Proper.{Proper, at-same, at-other, at-request, sound-after}
-use Rattle.invariants.specs.Holders.{holder-step}
-use Rattle.invariants.specs.Waiting.{waits-none}
+use Rattle.invariants.specs.Waiting.{waits-none, waits-step}
 use Rattle.planner.specs.Sheet.{cell}
 use Rattle.planner.specs.Places.{Place}
 use Rattle.planner.specs.Rows.{asked, Rows}
@@ -49,14 +48,11 @@ module _ {js : List Job} {p : Part} (s : Sound js) (g : Proper js p) where
 
   module _ (places : ℕ → Place) (i : ℕ) (l : i < 32) (ne : i ≢ p .job) where
     -- row i linked to w, where w holds what i asks for, and has it so
-    row-after : {sheet : List ℕ} (w : ℕ) (x : Held) → holderOf (after js p) (asked js i) ≡ w → heldAt (jobAt (after js p) w) (asked js i) ≡ x → Row (jobAt js i) w (x .hold) (x .rollback) (places i) i sheet → RowOf (after js p) places i sheet
-    row-after w x e has r = row-same r (sym same) (sym waits) (ap (λ (h : Held). h .hold) (sym held)) (ap (λ (h : Held). h .rollback) (sym held))
+    row-after : {sheet : List ℕ} (w : ℕ) (x : Held) → waitsFor (after js p) i ≡ w → heldAt (jobAt (after js p) w) (asked js i) ≡ x → Row (jobAt js i) w (x .hold) (x .rollback) (places i) i sheet → RowOf (after js p) places i sheet
+    row-after w x waits has r = row-same r (sym same) (sym waits) (ap (λ (h : Held). h .hold) (sym held)) (ap (λ (h : Held). h .rollback) (sym held))
       where
         same : jobAt (after js p) i ≡ jobAt js i
         same = at-other js p i ne
-
-        waits : waitsFor (after js p) i ≡ w
-        waits = ap (λ (j : Job). holderOf (after js p) (j .request .resource)) same ∙ e
 
         held : heldAt (jobAt (after js p) (waitsFor (after js p) i)) (asked (after js p) i) ≡ x
         held =
@@ -68,7 +64,7 @@ module _ {js : List Job} {p : Part} (s : Sound js) (g : Proper js p) where
     taken : {sheet : List ℕ} → 0 < holdOf (workedBy js p) (asked js i) → RowOf js places i sheet → RowOf (after js p) places i (linked i (p .job) (holdOf (workedBy js p) (asked js i)) (rollbackOf (workedBy js p) (asked js i)) sheet)
     taken h r =
         row-after (p .job) (heldAt (workedBy js p) (asked js i))
-        (rw (lt-ltb 0 (holdOf (workedBy js p) (asked js i)) h) at (holder-step s g (asked js i)))
+        (rw (ne-eqb i (p .job) ne, lt-ltb 0 (holdOf (workedBy js p) (asked js i)) h) at (waits-step s g i))
         (ap (λ (j : Job). heldAt j (asked js i)) (at-same s g))
         (linked-own (p .job) _ _ l r)
 
@@ -76,7 +72,7 @@ module _ {js : List Job} {p : Part} (s : Sound js) (g : Proper js p) where
     given-up : {sheet : List ℕ} → holdOf (workedBy js p) (asked js i) ≤ 0 → waitsFor js i ≡ p .job → RowOf js places i sheet → RowOf (after js p) places i (linked i nobody 0 0 sheet)
     given-up h e r =
         row-after nobody free
-        (rw (le-ltb 0 (holdOf (workedBy js p) (asked js i)) h, eq-eqb (waitsFor js i) (p .job) e) at (holder-step s g (asked js i)))
+        (rw (ne-eqb i (p .job) ne, le-ltb 0 (holdOf (workedBy js p) (asked js i)) h, eq-eqb (waitsFor js i) (p .job) e) at (waits-step s g i))
         (held-nobody (after js p) (sound-after s g .size) (asked js i))
         (linked-own nobody 0 0 l r)
 
@@ -84,7 +80,7 @@ module _ {js : List Job} {p : Part} (s : Sound js) (g : Proper js p) where
     unmoved : {sheet : List ℕ} → holdOf (workedBy js p) (asked js i) ≤ 0 → waitsFor js i ≢ p .job → RowOf js places i sheet → RowOf (after js p) places i sheet
     unmoved h d r =
         row-after (waitsFor js i) (heldAt (jobAt js (waitsFor js i)) (asked js i))
-        (rw (le-ltb 0 (holdOf (workedBy js p) (asked js i)) h, ne-eqb (waitsFor js i) (p .job) d) at (holder-step s g (asked js i)))
+        (rw (ne-eqb i (p .job) ne, le-ltb 0 (holdOf (workedBy js p) (asked js i)) h, ne-eqb (waitsFor js i) (p .job) d) at (waits-step s g i))
         (ap (λ (j : Job). heldAt j (asked js i)) (at-other js p (waitsFor js i) d))
         r
 

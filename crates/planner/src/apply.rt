@@ -1,7 +1,8 @@
 // What a part does to its job, and to who holds what (VI.4 with 01's rulings).
 ghost use mathlib.Core.Path.{_≡_};
 ghost use Rattle.job.specs.Job.{worked};
-ghost use Rattle.planner.specs.Applied.{holderAfter, holdersAfter};
+ghost use Rattle.invariants.specs.Holders.{holderAfter};
+ghost use Rattle.planner.specs.Applied.{holdersAfter};
 use job::Held;
 use job::Job;
 

@@ -3,7 +3,8 @@ use lib.ListN.{getD}
 use borrow.Author.Needs.{needs}
 use Rattle.laws.specs.Each.{Doing, begin, next, ended-ix}
 use Rattle.job.specs.Held.{free}
-use Rattle.planner.specs.Applied.{holderAfter, holdersAfter}
+use Rattle.invariants.specs.Holders.{holderAfter}
+use Rattle.planner.specs.Applied.{holdersAfter}
 use Prim.Native.Nat.{_-_}
 use Rattle.planner.proofs.apply.holders_after.Statement.{statement}
 use Rattle.planner.proofs.apply.holders_after.Tie as tie
