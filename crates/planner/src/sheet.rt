@@ -2,6 +2,8 @@
 // read, and to those who write them, lay.rt and keep.rt.
 ghost use mathlib.Core.Path.{_≡_};
 ghost use Prim.Native.Nat.{_<_};
+ghost use lib.ListN.{getD};
+ghost use Rattle.gus.specs.Waits.{nobody};
 ghost use Rattle.planner.specs.Sheet.{runIn, rollbackIn, holdIn, undoIn, waitsIn, rollingIn, endIn, piecesIn, asksIn};
 
 pub(crate) const RUN: usize = 0;
@@ -29,6 +31,15 @@ fn number(n: u32) -> usize
     ensures { λ r. ⌜ r ≡ n ⌝ }
 {
     n as usize
+}
+
+// The definitions have nobody past the end of the sheet; nothing past its end is read.
+fn number_at(sheet: &[u32; 288], place: usize) -> usize
+    requires { ⌜ place < 288 ⌝ }
+    ensures { λ r. ⌜ r ≡ getD (now (sheet .entry)) place nobody ⌝ }
+{
+    let all: &[u32] = sheet;
+    number(all[place])
 }
 
 pub(crate) fn run_of(sheet: &[u32; 288], job: usize) -> u32
@@ -64,8 +75,7 @@ pub(crate) fn waits_of(sheet: &[u32; 288], job: usize) -> usize
     requires { ⌜ job < 32 ⌝ }
     ensures { λ r. ⌜ r ≡ waitsIn (now (sheet .entry)) job ⌝ }
 {
-    let all: &[u32] = sheet;
-    number(all[9 * job + WAITS])
+    number_at(sheet, 9 * job + WAITS)
 }
 
 // What it requests: a resource, or 255.
@@ -73,8 +83,7 @@ pub(crate) fn asks_of(sheet: &[u32; 288], job: usize) -> usize
     requires { ⌜ job < 32 ⌝ }
     ensures { λ r. ⌜ r ≡ asksIn (now (sheet .entry)) job ⌝ }
 {
-    let all: &[u32] = sheet;
-    number(all[9 * job + ASKS])
+    number_at(sheet, 9 * job + ASKS)
 }
 
 pub(crate) fn rolls(sheet: &[u32; 288], job: usize) -> bool
