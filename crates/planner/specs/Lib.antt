@@ -24,7 +24,7 @@ pub mod Rows
 pub mod Unheld
 pub mod Putting
 pub mod Row
-pub mod Quiet
+pub mod Askers
 pub mod WorkedRows
 pub mod SettledRows
 pub mod RowsView

@@ -1,6 +1,5 @@
 -- A group's parts made one after the other: the state, the sheet and the plan after each of them.
 use mathlib.Core.Path.{_≡_, sym, ap, _∙_}
-use mathlib.Core.Bool.{Bool}
 use mathlib.Core.List.{List, _∷_}
 use Prim.Native.Nat.{ℕ, _+_, _-_, _<_, _≤_}
 use native.Mathlib.Numerals.{add-one}
@@ -21,7 +20,7 @@ use Rattle.planner.specs.declared.State.{State}
 use Rattle.planner.specs.Rows.{Idle}
 use Rattle.planner.specs.Idling.{idle-after}
 use Rattle.planner.specs.Shown.{payIn}
-use Rattle.planner.specs.Quiet.{Quiet, Reworking}
+use Rattle.planner.specs.Askers.{Askers, Reworking, counted, first-askers}
 use Rattle.planner.specs.Kept.{Kept, kept-after}
 use Rattle.planner.specs.Applied.{afterPart, afterParts, noPart}
 use Rattle.planner.specs.Applying.{Applying, apply-begin, apply-next, apply-ended}
@@ -41,14 +40,14 @@ pub record Starting (bytes : List ℕ) (s : State) (n t : ℕ) : Type 0 where
   pub now : t ≤ 2147483647
 
 -- The inner loop's whole invariant: k of the parts ps are made. s₀ and plan₀ are the state and the plan before the first of them.
-pub record Working (bytes : List ℕ) (n : ℕ) (ps : List Part) (s₀ : State) (plan₀ : List Part) (count : ℕ) (s : State) (asking : Bool) (plan : List Part) (k : ℕ) : Type 0 where
+pub record Working (bytes : List ℕ) (n : ℕ) (ps : List Part) (s₀ : State) (plan₀ : List Part) (count : ℕ) (s : State) (askers : List ℕ) (asking : ℕ) (plan : List Part) (k : ℕ) : Type 0 where
   pub applying : Applying ps s₀ s k
   pub appending : Appending plan₀ count ps plan k
   pub sound : Sound (s .jobs)
   pub replay : Replay (s .jobs) (drop k ps)
   pub idle : Idle n (s .jobs)
   pub kept : Kept bytes s
-  pub quiet : Quiet asking n (s .sheet)
+  pub asked : Askers (s .sheet) asking askers
 
 -- the first of a replay's parts, and those after it
 first-proper : {js : List Job} {p : Part} {ps qs : List Part} → Replay js qs → qs ≡ p ∷ ps → Proper js p
@@ -64,26 +63,24 @@ rest-replay r e = by (rw e at r)
     by (then g r) = r
 
 module _ {bytes : List ℕ} {n : ℕ} {ps : List Part} {s₀ : State} {plan₀ : List Part} {count : ℕ} where
-  pub working-begin : {asking : Bool} → Sound (s₀ .jobs) → Replay (s₀ .jobs) ps → Idle n (s₀ .jobs) → Kept bytes s₀ → Quiet asking n (s₀ .sheet) → Working bytes n ps s₀ plan₀ count s₀ asking plan₀ 0
-  working-begin y r i w q = record { applying = apply-begin (y .size); appending = append-begin; sound = y; replay = r; idle = i; kept = w; quiet = q }
+  pub working-begin : {askers : List ℕ} {asking : ℕ} → Sound (s₀ .jobs) → Replay (s₀ .jobs) ps → Idle n (s₀ .jobs) → Kept bytes s₀ → Askers (s₀ .sheet) asking askers → Working bytes n ps s₀ plan₀ count s₀ askers asking plan₀ 0
+  working-begin y r i w a = record { applying = apply-begin (y .size); appending = append-begin; sound = y; replay = r; idle = i; kept = w; asked = a }
 
-  module _ {s : State} {asking : Bool} {plan : List Part} {k : ℕ} (w : Working bytes n ps s₀ plan₀ count s asking plan k) where
+  module _ {s : State} {askers : List ℕ} {asking : ℕ} {plan : List Part} {k : ℕ} (w : Working bytes n ps s₀ plan₀ count s askers asking plan k) where
     pub working-proper : k < length ps → Proper (s .jobs) (getD ps k noPart)
     working-proper h = first-proper (w .replay) (drop-cons ps k noPart h)
 
     -- what keeping the sheet after this part relies on
-    pub working-rework : (p : Part) {j : Job} → n ≤ 32 → p .job < 32 → j ≡ workedBy (s .jobs) p → Reworking n asking (p .job) j (s .sheet)
-    working-rework p few below e = record {
-      few = few;
+    pub working-rework : (p : Part) {j : Job} → p .job < 32 → j ≡ workedBy (s .jobs) p → Reworking (p .job) j (s .sheet) asking askers
+    working-rework p below e = record {
       below = below;
       size = w .kept .rows .size;
       none = rw e (worked-request (p .rolling) (p .time) (jobAt (s .jobs) (p .job)));
-      past = λ i l h. omega (arith, w .kept .rows .asks i h, w .idle .request i l);
-      quiet = w .quiet;
+      askers-are = w .asked;
     }
 
-    pub working-next : {s′ : State} {asking′ : Bool} {p : Part} → k < length ps → p ≡ getD ps k noPart → s′ ≡ afterPart s p → Quiet asking′ n (s′ .sheet) → Working bytes n ps s₀ plan₀ count s′ asking′ (set plan (count + k) p) (k + 1)
-    working-next {s′} {asking′} {p} h e q quiet =
+    pub working-next : {s′ : State} {askers′ : List ℕ} {asking′ : ℕ} {p : Part} → k < length ps → p ≡ getD ps k noPart → s′ ≡ afterPart s p → Askers (s′ .sheet) asking′ askers′ → Working bytes n ps s₀ plan₀ count s′ askers′ asking′ (set plan (count + k) p) (k + 1)
+    working-next {s′} {p = p} h e q asked =
         let same : s′ ≡ afterPart s (getD ps k noPart) = q ∙ ap (afterPart s) e in
         let jobs : s′ .jobs ≡ after (s .jobs) (getD ps k noPart) = ap (λ (x : State). x .jobs) same in
         record {
@@ -93,7 +90,7 @@ module _ {bytes : List ℕ} {n : ℕ} {ps : List Part} {s₀ : State} {plan₀ :
           replay = rw (jobs, add-one k) (rest-replay (w .replay) (drop-cons ps k noPart h));
           idle = rw jobs (idle-after (w .idle) (getD ps k noPart));
           kept = rw same (kept-after s (w .sound) (working-proper h) (w .kept));
-          quiet = quiet;
+          asked = asked;
         }
 
     pub working-ended : length ps ≤ k → (s ≡ afterParts s₀ ps) × (plan ≡ appended plan₀ count ps)
@@ -101,13 +98,17 @@ module _ {bytes : List ℕ} {n : ℕ} {ps : List Part} {s₀ : State} {plan₀ :
 
 -- THE OUTER LOOP'S whole invariant, with i rounds made: the plan so far with the rounds left is the whole plan; and the stage, of which the
 -- theorems of KeptRounds speak, is the one reached from the first by i rounds.
-pub record Going (bytes : List ℕ) (n : ℕ) (whole : Plan) (first s : Stage) (asking : Bool) (i : ℕ) : Type 0 where
+pub record Going (bytes : List ℕ) (n : ℕ) (whole : Plan) (first s : Stage) (askers : List ℕ) (asking i : ℕ) : Type 0 where
   pub within : i ≤ 32
   pub staged : Staged (32 - i) byDensity (payIn bytes) whole s
   pub reached : s ≡ stageAfter i byDensity (payIn bytes) first
   pub idle : Idle n (s .state .jobs)
   pub kept : Kept bytes (s .state)
-  pub quiet : Quiet asking n (s .state .sheet)
+  pub asked : Askers (s .state .sheet) asking askers
+
+-- at first every job is listed
+pub starting-askers : {bytes : List ℕ} {s : State} {n t : ℕ} → Starting bytes s n t → Askers (s .sheet) n (counted 0 32)
+starting-askers y = first-askers (y .few) (λ i l h. omega (arith, y .kept .rows .asks i h, y .idle .request i l))
 
 -- one round more is reached
 pub reached-next : (bytes : List ℕ) (first : Stage) (i : ℕ) {s r : Stage} → s ≡ stageAfter i byDensity (payIn bytes) first → 0 < length (roundAt byDensity (payIn bytes) s .parts) → r ≡ joinedBy (roundAt byDensity (payIn bytes) s) s → r ≡ stageAfter (i + 1) byDensity (payIn bytes) first

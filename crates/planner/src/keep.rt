@@ -1,9 +1,8 @@
 // The sheet brought up to date: after a part, and after the victims are sent back. Only this file, lay.rt and sheet.rt know its columns.
 ghost use mathlib.Core.Path.{_≡_};
 ghost use Prim.Native.Nat.{_<_, _≤_};
-ghost use Rattle.laws.specs.Count.{upto};
-ghost use Rattle.planner.specs.Putting.{put, linked, modeOf, owned, relinkedRow, relinkedAt, reworked, sentRow, sentRows};
-ghost use Rattle.planner.specs.Quiet.{Quiet, Reworking};
+ghost use Rattle.planner.specs.Putting.{put, linked, modeOf, owned, relinkedRow, reworked, sentRow, sentRows};
+ghost use Rattle.planner.specs.Askers.{Listed, Relinked, Askers, Reworking};
 ghost use Rattle.planner.specs.Settling.{Handed, victimsIn};
 use crate::Victims;
 use crate::sheet::ASKS;
@@ -88,38 +87,50 @@ fn relink_row(sheet: &mut [u32; 288], row: usize, job: u8, h: Held)
     }
 }
 
-// The rows of those among the first n who ask for something; and whether there are any.
-fn relink(sheet: &mut [u32; 288], n: usize, job: u8, held: [Held; 32]) -> bool
-    requires { ⌜ n ≤ 32 ⌝ }
-    ensures { λ r. ⌜ (now (sheet .exit) ≡ upto (relinkedAt job held) n (now (sheet .entry))) × Quiet r n (now (sheet .exit)) ⌝ }
+// The rows of those on the list who ask for something; who does not is struck from it. Answers how many are left on it.
+fn relink(
+    sheet: &mut [u32; 288],
+    askers: &mut [u8; 32],
+    count: usize,
+    job: u8,
+    held: [Held; 32],
+) -> usize
+    requires { ⌜ Listed count (now askers) ⌝ }
+    ensures { λ r. ⌜ Relinked job held count (now (sheet .entry)) (now (askers .entry)) (now (sheet .exit)) r (now (askers .exit)) ⌝ }
 {
-    let mut asking = false;
-    let mut i: usize = 0;
-    while i < n {
-        let resource = asks_of(sheet, i);
+    let mut left: usize = 0;
+    let mut k: usize = 0;
+    while k < count {
+        let asker = askers[k];
+        let row = wide(asker);
+        let resource = asks_of(sheet, row);
         if resource < 32 {
-            asking = true;
             let h = held[resource];
-            relink_row(sheet, i, job, h);
+            relink_row(sheet, row, job, h);
+            askers[left] = asker;
+            left += 1;
         }
-        i += 1;
+        k += 1;
     }
-    asking
+    left
 }
 
-// After a part of this job, which then is j. asking: whether anybody asks for anything; a request is never made, only granted or dropped, so
-// once nobody asks no row is looked at again.
-pub(crate) fn put_worked(sheet: &mut [u32; 288], n: usize, asking: bool, job: u8, j: Job) -> bool
-    requires { ⌜ Reworking n asking job j (now sheet) ⌝ }
-    ensures { λ r. ⌜ (now (sheet .exit) ≡ reworked job j (now (sheet .entry))) × Quiet r n (now (sheet .exit)) ⌝ }
+// After a part of this job, which then is j. The first count of the list are those who may ask for something: a request is never made, only
+// granted or dropped, so that no other row is looked at.
+pub(crate) fn put_worked(
+    sheet: &mut [u32; 288],
+    askers: &mut [u8; 32],
+    count: usize,
+    job: u8,
+    j: Job,
+) -> usize
+    requires { ⌜ Reworking job j (now sheet) count (now askers) ⌝ }
+    ensures { λ r. ⌜ (now (sheet .exit) ≡ reworked job j (now (sheet .entry))) × Askers (now (sheet .exit)) r (now (askers .exit)) ⌝ }
 {
     let row = wide(job);
     put_own(sheet, row, j.run, j.rollback, j.rolling, j.request.resource);
-    if asking {
-        let held = j.held;
-        return relink(sheet, n, job, held);
-    }
-    false
+    let held = j.held;
+    relink(sheet, askers, count, job, held)
 }
 
 // "It goes into rollback and loses its request."

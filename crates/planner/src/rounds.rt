@@ -17,6 +17,42 @@ use crate::round::round;
 use crate::wide;
 use gus::Part;
 
+// Every job, by number: at first any may ask for something.
+const EVERY: [u8; 32] = [
+    0,
+    1,
+    2,
+    3,
+    4,
+    5,
+    6,
+    7,
+    8,
+    9,
+    10,
+    11,
+    12,
+    13,
+    14,
+    15,
+    16,
+    17,
+    18,
+    19,
+    20,
+    21,
+    22,
+    23,
+    24,
+    25,
+    26,
+    27,
+    28,
+    29,
+    30,
+    31,
+];
+
 fn sum(total: i32, gain: i32) -> i32
     requires { ⌜ (natAbs total ≤ 1_024_000_000) × (natAbs gain ≤ 32_000_000) ⌝ }
     ensures { λ r. ⌜ r ≡ total +ℤ gain ⌝ }
@@ -37,7 +73,8 @@ pub(crate) fn rounds<'a>(bytes: &'a [u8], start: State, n: usize, t: u32) -> Pla
     };
     let mut state = start;
     let mut plan = [empty; 96];
-    let mut asking = true;
+    let mut askers = EVERY;
+    let mut asking: usize = n;
     let mut count: usize = 0;
     let mut total: i32 = 0;
     let mut moment: u32 = t;
@@ -66,7 +103,7 @@ pub(crate) fn rounds<'a>(bytes: &'a [u8], start: State, n: usize, t: u32) -> Pla
             let held = new.held;
             let handed = holders_after(holders, p.job, held);
             state.holders = handed;
-            asking = put_worked(&mut state.sheet, n, asking, p.job, new);
+            asking = put_worked(&mut state.sheet, &mut askers, asking, p.job, new);
             plan[count + k] = p;
             k += 1;
         }

@@ -1,9 +1,6 @@
--- `planner::keep::put_worked` meets its contract: the own row, and the others where anybody asks.
-use mathlib.Core.Path.{_≡_, ap, _∙_}
-use mathlib.Core.List.{List}
+-- `planner::keep::put_worked` meets its contract: the own row, and then the rows of who asks.
 use native.Mathlib.Omega.{arith}
-use Rattle.planner.specs.Putting.{owned}
-use Rattle.planner.specs.Quiet.{relinked-all, none-relinked}
+use Rattle.planner.specs.Askers.{sheet-reworked, askers-left}
 use borrow.Author.Needs.{needs}
 use Rattle.planner.proofs.keep.put_worked.Statement.{statement}
 use Rattle.planner.proofs.keep.put_worked.Tie as tie
@@ -15,19 +12,13 @@ put-own-requires : tie.Need-put-own-requires
 put-own-requires c κs = omega (arith, c .before .wide .ensures, c .before .before .pre .below)
 
 relink-requires : tie.Need-relink-requires
-relink-requires c κs = c .before .before .before .before .before .before .pre .few
+relink-requires c κs = c .before .before .before .before .before .before .pre .askers-are .listed
 
 returns : tie.Need-returns
 returns c =
-    let s = c .before .before .before .before .before .before .before in
-    let e = c .before .before .before .before .put-own .ensures in
-    (relinked-all (s .pre) (rw (c .before .before .before .before .before .before .wide .ensures) at e) (c .relink .ensures .0), c .relink .ensures .1)
-
-returns-2 : tie.Need-returns-2
-returns-2 c =
-    let s = c .before .before .before .before in
-    none-relinked (s .pre) (rw (c .before .before .before .wide .ensures) at (c .before .put-own .ensures)) (c .if1 .left)
+    let w = c .before .before .before .before .before .before .before .pre in
+    let own = rw (c .before .before .before .before .before .before .wide .ensures) at (c .before .before .before .before .put-own .ensures) in
+    (sheet-reworked w own (c .relink .ensures), askers-left w own (c .relink .ensures))
 
 pub put-worked-spec : {M : Type 1} → statement M
-put-worked-spec =
-    tie.close (tie.spec wide-requires put-own-requires relink-requires returns returns-2)
+put-worked-spec = tie.close (tie.spec wide-requires put-own-requires relink-requires returns)

@@ -1,6 +1,5 @@
 -- `planner::rounds::rounds` meets its contract: the plan so far, joined with the rounds left, is the whole plan, and the state is the one that the rounds reach.
 use mathlib.Core.Path.{_≡_, refl, sym, _∙_}
-use mathlib.Core.Bool.{true≢false}
 use mathlib.Core.List.{List}
 use mir.Syntax.{w32}
 use mir.Val.{toZ, ofZ}
@@ -22,6 +21,7 @@ use Rattle.invariants.specs.Fair.{by-density-fair}
 use Rattle.invariants.specs.Replay.{runs-replay}
 use Rattle.planner.specs.declared.State.{State}
 use Rattle.planner.specs.LaidOut.{laidOut}
+use Rattle.planner.specs.Askers.{counted}
 use Rattle.planner.specs.Applied.{noPart}
 use Rattle.planner.specs.Applying.{made, worked-by}
 use Rattle.planner.specs.Stage.{Stage, opening, roundAt, stageAfter}
@@ -29,7 +29,7 @@ use Rattle.planner.specs.Fitting.{Fitting, sane-modest, round-runs}
 use Rattle.planner.specs.Joining.{Joinable, fitting-moment, some-parts, no-parts, joinable, group-parts, group-length, round-joined}
 use Rattle.planner.specs.Staged.{staged-begin, staged-stopped, staged-next, staged-ended}
 use Rattle.planner.specs.Shown.{payIn, shown-scanning, shown-round}
-use Rattle.planner.specs.Working.{Going, Working, working-begin, working-rework, working-next, working-ended, reached-next}
+use Rattle.planner.specs.Working.{Going, Working, working-begin, working-rework, working-next, working-ended, starting-askers, reached-next}
 use Rattle.planner.proofs.rounds.rounds.Statement.{statement}
 use Rattle.planner.proofs.rounds.rounds.Tie as tie
 
@@ -38,24 +38,24 @@ abbrev stageOf : State → List Part → ℕ → ℕ → ℕ → ℕ → Stage
 stageOf state plan count total moment i = record { state = state; parts = plan; count = count; rounds = i; total = toZ w32 total; moment = moment }
 
 abbrev Inv-loop2 : tie.InvT-loop2
-Inv-loop2 bytes n t state₀ plan₀ asking₀ count total moment i g parts course k₀ state plan asking k =
-    Working bytes n (take (g .count) parts) state₀ plan₀ count state asking plan k
+Inv-loop2 bytes n t state₀ plan₀ askers₀ asking₀ count total moment i g parts course k₀ state plan askers asking k =
+    Working bytes n (take (g .count) parts) state₀ plan₀ count state askers asking plan k
 
 abbrev μ-loop2 : tie.MeasureT-loop2
-μ-loop2 bytes n t state₀ plan₀ asking₀ count total moment i g parts course k₀ state plan asking k = g .count - k
+μ-loop2 bytes n t state₀ plan₀ askers₀ asking₀ count total moment i g parts course k₀ state plan askers asking k = g .count - k
 
 abbrev Inv-loop : tie.InvT-loop
-Inv-loop bytes n t state₀ plan₀ asking₀ count₀ total₀ moment₀ i₀ state plan asking count total moment i =
-    Going bytes n (rounds 32 byDensity (payIn bytes) (state₀ .jobs) t) (opening state₀ t) (stageOf state plan count total moment i) asking i
+Inv-loop bytes n t state₀ plan₀ askers₀ asking₀ count₀ total₀ moment₀ i₀ state plan askers asking count total moment i =
+    Going bytes n (rounds 32 byDensity (payIn bytes) (state₀ .jobs) t) (opening state₀ t) (stageOf state plan count total moment i) askers asking i
 
 abbrev μ-loop : tie.MeasureT-loop
-μ-loop bytes n t state₀ plan₀ asking₀ count₀ total₀ moment₀ i₀ state plan asking count total moment i = 32 - i
+μ-loop bytes n t state₀ plan₀ askers₀ asking₀ count₀ total₀ moment₀ i₀ state plan askers asking count total moment i = 32 - i
 
 loop-holds : tie.Need-loop-holds Inv-loop2 μ-loop2 Inv-loop μ-loop
-unfolding opening padded stageAfter
+unfolding opening padded stageAfter counted
 loop-holds c =
     let y = c .before .pre in
-    record { within = omega arith; staged = staged-begin (y .sane) (y .now); reached = refl; idle = y .idle; kept = y .kept; quiet = λ e. absurd (true≢false e) }
+    record { within = omega arith; staged = staged-begin (y .sane) (y .now); reached = refl; idle = y .idle; kept = y .kept; asked = starting-askers y }
 
 -- a turn of the outer loop: the lent curves, the stage that it starts from, and that a round may start there
 module _ (turn : tie.In-loop Inv-loop2 μ-loop2 Inv-loop μ-loop) where
@@ -124,7 +124,7 @@ module _ (c : tie.Else1 Inv-loop2 μ-loop2 Inv-loop μ-loop) where
 loop2-holds : tie.Need-loop2-holds Inv-loop2 μ-loop2 Inv-loop μ-loop
 loop2-holds c =
     let h = from c in
-    working-begin (fits h .jobs .ready .sound) (rw (group-parts byDensity (pay h) (stage h) (same-group (made-round c))) (runs-replay (round-runs by-density-fair (fits h) (some c)))) (head h .loop .inv .idle) (head h .loop .inv .kept) (head h .loop .inv .quiet)
+    working-begin (fits h .jobs .ready .sound) (rw (group-parts byDensity (pay h) (stage h) (same-group (made-round c))) (runs-replay (round-runs by-density-fair (fits h) (some c)))) (head h .loop .inv .idle) (head h .loop .inv .kept) (head h .loop .inv .asked)
 
 -- a turn of the inner loop: part k of the group
 module _ (c : tie.Then2 Inv-loop2 μ-loop2 Inv-loop μ-loop) where
@@ -181,10 +181,7 @@ holders-after-requires : tie.Need-holders-after-requires Inv-loop2 μ-loop2 Inv-
 holders-after-requires c κs = search needs
 
 put-worked-requires : tie.Need-put-worked-requires Inv-loop2 μ-loop2 Inv-loop μ-loop
-put-worked-requires c κs =
-    let p = c .before .before .before .before .before .before .before in
-    let t = p .before in
-    working-rework (at-part t .loop2 .inv) (part p) (head (from (group t)) .before .before .pre .few) (job-below p) (worked-part (c .before .before .before .before))
+put-worked-requires c κs = let p = c .before .before .before .before .before .before .before .before in working-rework (at-part (p .before) .loop2 .inv) (part p) (job-below p) (worked-part (c .before .before .before .before .before))
 
 -- where the part goes in the plan
 module _ (c : tie.After-p Inv-loop2 μ-loop2 Inv-loop μ-loop) where
@@ -192,30 +189,30 @@ module _ (c : tie.After-p Inv-loop2 μ-loop2 Inv-loop μ-loop) where
   room = omega (arith, can-join (group (c .before)) .room, c .before .if2 .taken)
 
 add-plan : tie.Need-add-plan Inv-loop2 μ-loop2 Inv-loop μ-loop
-add-plan c = record { fits = omega (arith, room (c .before .before .before .before .before .before .before .before)) }
+add-plan c = record { fits = omega (arith, room (c .before .before .before .before .before .before .before .before .before)) }
 
 mul-plan : tie.Need-mul-plan Inv-loop2 μ-loop2 Inv-loop μ-loop
-mul-plan c = record { fits = omega (arith, room (c .before .before .before .before .before .before .before .before)) }
+mul-plan c = record { fits = omega (arith, room (c .before .before .before .before .before .before .before .before .before)) }
 
 array-set-from-plan : tie.Need-array-set-from-plan Inv-loop2 μ-loop2 Inv-loop μ-loop
-array-set-from-plan c = omega (arith, room (c .before .before .before .before .before .before .before .before))
+array-set-from-plan c = omega (arith, room (c .before .before .before .before .before .before .before .before .before))
 
 add-k : tie.Need-add-k Inv-loop2 μ-loop2 Inv-loop μ-loop
-add-k c = record { fits = omega (arith, room (c .before .before .before .before .before .before .before .before)) }
+add-k c = record { fits = omega (arith, room (c .before .before .before .before .before .before .before .before .before)) }
 
 loop2-less : tie.Need-loop2-less Inv-loop2 μ-loop2 Inv-loop μ-loop
-loop2-less c = omega (arith, c .before .before .before .before .before .before .before .before .before .if2 .taken)
+loop2-less c = omega (arith, c .before .before .before .before .before .before .before .before .before .before .if2 .taken)
 
 loop2-again : tie.Need-loop2-again Inv-loop2 μ-loop2 Inv-loop μ-loop
 loop2-again c =
-    let p = c .before .before .before .before .before .before .before .before in
+    let p = c .before .before .before .before .before .before .before .before .before in
     let t = p .before in
     let w = at-part t .loop2 .inv in
     let g = made-round (group t) .round .result in
     let s = at-part t .loop2 .state in
     let same : part p ≡ getD (parts-of (group t)) (at-part t .loop2 .k) noPart = sym (getD-take (g .count) (g .parts) (at-part t .loop2 .k) noPart (t .if2 .taken)) in
     working-next w (more t) same
-    (made s (part p) (job-below p) (w .sound .size) (c .before .before .before .before .before .before .before .wide .ensures) (c .before .before .before .before .before .worked-job .ensures) (c .before .before .holders-after .ensures) (c .put-worked .ensures .0))
+    (made s (part p) (job-below p) (w .sound .size) (c .before .before .before .before .before .before .before .before .wide .ensures) (c .before .before .before .before .before .before .worked-job .ensures) (c .before .before .before .holders-after .ensures) (c .put-worked .ensures .0))
     (c .put-worked .ensures .1)
 
 add-count : tie.Need-add-count Inv-loop2 μ-loop2 Inv-loop μ-loop
@@ -259,7 +256,7 @@ loop-again c =
       reached = reached-next (bytes h) (opening (head h .before .before .args .start) (head h .before .before .args .t)) (head h .loop .i) (head h .loop .inv .reached) (some e) joined;
       idle = w .idle;
       kept = w .kept;
-      quiet = w .quiet;
+      asked = w .asked;
     }
 
 returns-2 : tie.Need-returns-2 Inv-loop2 μ-loop2 Inv-loop μ-loop
