@@ -1,4 +1,4 @@
--- The planner's state after a part, and after a row of parts: the jobs as gus has them, and who holds each resource.
+-- The planner's state after a part, and after a row of parts: the jobs as gus has them, who holds each resource, and the sheet.
 use mathlib.Core.Path.{_≡_}
 use mathlib.Core.Bool.{false}
 use mathlib.Core.List.{List, [], _∷_}

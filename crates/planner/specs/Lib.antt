@@ -25,6 +25,7 @@ pub mod Unheld
 pub mod Putting
 pub mod Row
 pub mod Askers
+pub mod Example
 pub mod WorkedRows
 pub mod SettledRows
 pub mod RowsView

@@ -93,7 +93,7 @@ module _ (s : List ℕ) {j : Judged} (a : Accepted s j) where
 
   -- the laid sheet, as the code and as the definition have it
   module _ {sheet : List ℕ} (e : sheet ≡ laidSheet s (j .starts) (j .holders) (j .jobs)) where
-    pub laid-is : sheet ≡ openedState s .sheet
+    laid-is : sheet ≡ openedState s .sheet
     laid-is = e ∙ (λ k. laidSheet s (standing .starts-are k) (standing .holders-are k) (standing .jobs-are k))
 
     pub opened-shown : Shown s (jobsFrom b) sheet

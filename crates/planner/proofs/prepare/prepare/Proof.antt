@@ -1,6 +1,6 @@
 -- `planner::prepare::prepare` meets its contract: the sheet of the book's jobs, and then with the victims in rollback.
 use native.Mathlib.Omega.{arith}
-use Rattle.planner.specs.Preparing.{standing, laid-is, opened-shown, first-scanning, victims-are, victims-handed, sent-is}
+use Rattle.planner.specs.Preparing.{standing, opened-shown, first-scanning, victims-are, victims-handed, sent-is}
 use Rattle.planner.proofs.prepare.prepare.Statement.{statement}
 use Rattle.planner.proofs.prepare.prepare.Tie as tie
 
