@@ -17,6 +17,42 @@ use crate::wide;
 use job::Held;
 use job::Job;
 
+// Every job, by number: the list of who asks for something, before any is struck from it.
+pub(crate) const EVERY: [u8; 32] = [
+    0,
+    1,
+    2,
+    3,
+    4,
+    5,
+    6,
+    7,
+    8,
+    9,
+    10,
+    11,
+    12,
+    13,
+    14,
+    15,
+    16,
+    17,
+    18,
+    19,
+    20,
+    21,
+    22,
+    23,
+    24,
+    25,
+    26,
+    27,
+    28,
+    29,
+    30,
+    31,
+];
+
 fn time(n: u16) -> u32
     ensures { λ r. ⌜ r ≡ n ⌝ }
 {

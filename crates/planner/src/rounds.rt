@@ -12,46 +12,11 @@ use crate::PlanParts;
 use crate::State;
 use crate::apply::holders_after;
 use crate::apply::worked_job;
+use crate::keep::EVERY;
 use crate::keep::put_worked;
 use crate::round::round;
 use crate::wide;
 use gus::Part;
-
-// Every job, by number: at first any may ask for something.
-const EVERY: [u8; 32] = [
-    0,
-    1,
-    2,
-    3,
-    4,
-    5,
-    6,
-    7,
-    8,
-    9,
-    10,
-    11,
-    12,
-    13,
-    14,
-    15,
-    16,
-    17,
-    18,
-    19,
-    20,
-    21,
-    22,
-    23,
-    24,
-    25,
-    26,
-    27,
-    28,
-    29,
-    30,
-    31,
-];
 
 fn sum(total: i32, gain: i32) -> i32
     requires { ⌜ (natAbs total ≤ 1_024_000_000) × (natAbs gain ≤ 32_000_000) ⌝ }
@@ -61,7 +26,8 @@ fn sum(total: i32, gain: i32) -> i32
 }
 
 // The state stands in one local from the first round to the last, and each part changes there what it touches: handed from function to
-// function it would be copied each time, and that is most of what a round with short chains costs.
+// function it would be copied each time, and that is most of what a round with short chains costs. Who may still ask for something is
+// on a list beside it.
 pub(crate) fn rounds<'a>(bytes: &'a [u8], start: State, n: usize, t: u32) -> PlanParts
     requires { ⌜ Starting (now bytes) start n t ⌝ }
     ensures { λ r. ⌜ Rounded (rounds 32 byDensity (payFrom (bookOf (now (bytes .entry)))) (start .jobs) t) r ⌝ }
