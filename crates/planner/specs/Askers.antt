@@ -19,7 +19,7 @@ use Rattle.job.specs.declared.Job.{Job}
 use Rattle.job.specs.Held.{free}
 use Rattle.gus.specs.Waits.{nobody}
 use Rattle.planner.specs.Sheet.{asksIn}
-use Rattle.planner.specs.Putting.{put, linked, modeOf, owned, relinkedAt, relinkedRow, reworked, turn-asking, turn-none}
+use Rattle.planner.specs.Putting.{put, linked, modeOf, owned, relinkedAt, relinkedRow, reworked, turns, turn-asking, turn-none}
 use Rattle.planner.specs.Row.{put-same, put-away}
 
 -- numbers of jobs that rise, from m on
@@ -31,11 +31,6 @@ Rises m (i ∷ is) = (m ≤ i) × (i < 32) × Rises (suc i) is
 unfoldable pub asking : List ℕ → List ℕ → List ℕ
 asking sheet [] = []
 asking sheet (i ∷ is) = elim (ltb (asksIn sheet i) 32) [ true ↦ i ∷ asking sheet is | false ↦ asking sheet is ]
-
--- a turn for each of a list
-unfoldable pub turns : (ℕ → List ℕ → List ℕ) → List ℕ → List ℕ → List ℕ
-turns f [] sheet = sheet
-turns f (i ∷ is) sheet = turns f is (f i sheet)
 
 -- the first count of these are jobs, each once
 pub record Listed (count : ℕ) (askers : List ℕ) : Type 0 where

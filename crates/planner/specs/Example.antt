@@ -8,7 +8,7 @@ use Rattle.laws.specs.Count.{upto}
 use Rattle.job.specs.declared.Job.{Job}
 use Rattle.job.specs.Held.{free}
 use Rattle.job.specs.Job.{noRequest}
-use Rattle.planner.specs.Putting.{linked, owned, relinkedRow, relinkedAt, reworked, sentRow, sentRows}
+use Rattle.planner.specs.Putting.{linked, owned, relinkedRow, relinkedAt, reworked, sentRow, turns, sentRows}
 use Rattle.planner.specs.Askers.{asking}
 
 -- run, rollback, hold, undo, waits, mode, end, pieces, asks
@@ -34,10 +34,10 @@ after-victim : sentRows (1 ∷ []) before
     ≡ 20 ∷ 6 ∷ 0 ∷ 0 ∷ 255 ∷ 0 ∷ 100 ∷ 1 ∷ 7 ∷
     30 ∷ 0 ∷ 0 ∷ 0 ∷ 255 ∷ 1 ∷ 200 ∷ 2 ∷ 255 ∷
     40 ∷ 9 ∷ 0 ∷ 0 ∷ 255 ∷ 0 ∷ 300 ∷ 1 ∷ 7 ∷ []
-unfolding before sentRows sentRow linked
+unfolding before turns sentRow linked
 after-victim = refl
 
 -- and who still asks then
 still-asking : asking (sentRows (1 ∷ []) before) (0 ∷ 1 ∷ 2 ∷ []) ≡ 0 ∷ 2 ∷ []
-unfolding before sentRows sentRow linked asking
+unfolding before turns sentRow linked asking
 still-asking = refl

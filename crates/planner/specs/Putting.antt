@@ -52,10 +52,14 @@ reworked job j sheet = upto (relinkedAt job (j .held)) 32 (owned job (j .run) (j
 unfoldable pub sentRow : ℕ → List ℕ → List ℕ
 sentRow i sheet = linked i nobody 0 0 (put 8 i nobody (put 5 i 1 sheet))
 
--- and of each of these victims, one after the other
-unfoldable pub sentRows : List ℕ → List ℕ → List ℕ
-sentRows [] sheet = sheet
-sentRows (i ∷ is) sheet = sentRows is (sentRow i sheet)
+-- a turn for each of a list, one after the other
+unfoldable pub turns : (ℕ → List ℕ → List ℕ) → List ℕ → List ℕ → List ℕ
+turns f [] sheet = sheet
+turns f (i ∷ is) sheet = turns f is (f i sheet)
+
+-- the rows of these victims
+abbrev pub sentRows : List ℕ → List ℕ → List ℕ
+sentRows is sheet = turns sentRow is sheet
 
 module _ (job : ℕ) (h : Held) (i : ℕ) (sheet : List ℕ) where
   pub row-taken : 0 < h .hold → relinkedRow job h i sheet ≡ linked i job (h .hold) (h .rollback) sheet

@@ -23,19 +23,19 @@ use Rattle.planner.specs.Settling.{victimsIn, Handed, victims-long, vict
 use Rattle.planner.specs.Places.{Place}
 use Rattle.planner.specs.Rows.{asked, Rows}
 use Rattle.planner.specs.Unheld.{held-nobody}
-use Rattle.planner.specs.Putting.{sentRow, sentRows}
+use Rattle.planner.specs.Putting.{sentRow, turns, sentRows}
 use Rattle.planner.specs.Row.{Row, RowOf, row-same, sent-row, sent-own, row-of, rows-of}
 
 -- row i, after each of these was sent back
 module _ (j : Job) {i : ℕ} {place : Place} (l : i < 32) where
   -- once it is sent back, it stays so
   still-back : (is : List ℕ) {sheet : List ℕ} → Row (sentBack j) nobody 0 0 place i sheet → Row (sentBack j) nobody 0 0 place i (sentRows is sheet)
-  unfolding sentRows
+  unfolding turns
   still-back [] r = r
   still-back (a ∷ is) {sheet} r = still-back is (elim (ℕ-discrete i a) [ yes e ↦ rw (← e) (sent-own l r) | no ne ↦ sent-row a ne r ])
 
   victim-row : (is : List ℕ) {w h u : ℕ} {sheet : List ℕ} → Among i is → Row j w h u place i sheet → Row (sentBack j) nobody 0 0 place i (sentRows is sheet)
-  unfolding sentRows
+  unfolding turns
   victim-row [] none r = absurd none
   victim-row (a ∷ is) among r = elim (ℕ-discrete i a) [
     | yes e ↦ still-back is (rw (← e) (sent-own l r))
@@ -43,7 +43,7 @@ module _ (j : Job) {i : ℕ} {place : Place} (l : i < 32) where
   ]
 
   other-row : (is : List ℕ) {w h u : ℕ} {sheet : List ℕ} → (Among i is → ⊥) → Row j w h u place i sheet → Row j w h u place i (sentRows is sheet)
-  unfolding sentRows
+  unfolding turns
   other-row [] none r = r
   other-row (a ∷ is) none r = other-row is (λ x. none (inr x)) (sent-row a (λ e. none (inl e)) r)
 
@@ -79,11 +79,11 @@ module _ {v : Victims} {sheet₀ : List ℕ} (h : Handed v) where
 
   module _ {sheet : List ℕ} {k : ℕ} (s : Sending v sheet₀ sheet k) where
     pub sending-next : {sheet′ : List ℕ} → k < v .count → sheet′ ≡ sentRow (getD (v .list) k 0) sheet → Sending v sheet₀ sheet′ (k + 1)
-    unfolding sentRows
+    unfolding turns
     sending-next l e = record { within = omega arith; sent = rw (add-one, e) (rw (victims-next h k l) at (s .sent)) }
 
     pub sending-ended : v .count ≤ k → sheet ≡ sentRows (victimsIn v) sheet₀
-    unfolding sentRows
+    unfolding turns
     sending-ended l =
         let e : k ≡ length (victimsIn v) = omega (arith, victims-long h, s .within) in
         rw (e, drop-length (victimsIn v)) at (s .sent)
