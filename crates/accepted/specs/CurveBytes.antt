@@ -9,7 +9,7 @@ use lib.ListN.{length}
 use borrow.Author.Tests.{lt-ltb}
 use Rattle.laws.specs.Search.{lt-or-le}
 use Rattle.cursor.specs.Field.{valueAt, gotAt}
-use Rattle.curve.specs.Worth.{worthAt}
+use Rattle.curve.specs.Worth.{worthAt, amount}
 use Rattle.curve.specs.Bound.{worth-within}
 use Rattle.curve.specs.Layout.{piecePlace, curveAt, curveEnd}
 use Rattle.curve.specs.Question.{worthFrom, stands}
@@ -69,5 +69,5 @@ module _ (s : List ℕ) where
         ap (λ (w : CurveWorth). w .worth) (refused-not e) ∙ stands s 0 (a .kept .good .allowed .few) (a .kept .fits) t
 
     -- which is at most a million away from 0
-    pub worth-alone-small : curveWorth s t .number ≡ 0 → natAbs (curveWorth s t .worth) ≤ 1000000
+    pub worth-alone-small : curveWorth s t .number ≡ 0 → natAbs (amount (curveWorth s t .worth)) ≤ 1000000
     worth-alone-small h = rw (worth-alone h) (worth-within (alone-back (unrefused h) .kept .good .allowed) t)

@@ -9,7 +9,7 @@ use lib.IntN.{natAbs}
 use lib.ListN.{length, getD}
 use Rattle.laws.specs.Search.{lt-or-le}
 use Rattle.laws.specs.Listed.{listed-at, listed-past, length-listed}
-use Rattle.curve.specs.Worth.{worthAt}
+use Rattle.curve.specs.Worth.{worthAt, amount}
 use Rattle.curve.specs.Bound.{worth-within}
 use Rattle.book.specs.declared.Entry.{Entry}
 use Rattle.book.specs.declared.Record.{Record}
@@ -56,7 +56,7 @@ pub record Good (b : Book) : Type 0 where
   pub free : (r : ℕ) → ((i k : ℕ) → Stands b i k → entryOf b i k .resource ≡ r → ⊥) → getD (b .holders) r 255 ≡ 255
 
 -- "Curve values: -1,000,000 to 1,000,000": so is every worth
-pub worth-small : {resources : ℕ} {x : Record} → GoodRecord resources x → (t : ℕ) → natAbs (worthAt (x .curve) t) ≤ 1000000
+pub worth-small : {resources : ℕ} {x : Record} → GoodRecord resources x → (t : ℕ) → natAbs (amount (worthAt (x .curve) t)) ≤ 1000000
 worth-small g t = worth-within (g .curve .allowed) t
 
 module _ (s : List ℕ) (b : Book) (k : BookKept s) (g : BookGot s b) where

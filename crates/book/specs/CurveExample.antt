@@ -8,6 +8,7 @@ use Rattle.laws.specs.Count.{upto}
 use Rattle.laws.specs.Listed.{listed}
 use Rattle.cursor.specs.Refusal.{CUT, RANGE, TAIL}
 use Rattle.cursor.specs.Field.{valueAt, judged, readAt, fieldOf, ruleOf}
+use Rattle.curve.specs.declared.Worth.the-variants.{None, Of}
 use Rattle.curve.specs.Worth.{worthIn, worthAt}
 use Rattle.curve.specs.Layout.{signedOf}
 use Rattle.curve.specs.Question.{standsAt, worthFrom}
@@ -20,7 +21,7 @@ abbrev falling : List ℕ
 falling = 1 ∷ 0 ∷ 0 ∷ 0 ∷ 10 ∷ 0 ∷ 0 ∷ 0 ∷ 5 ∷ 255 ∷ 254 ∷ 0 ∷ 0 ∷ 0 ∷ 20 ∷ []
 
 -- before the start, at it, inside, at termination, after it
-worths : map (λ t. curveWorth falling t .worth) (9 ∷ 10 ∷ 13 ∷ 20 ∷ 21 ∷ []) ≡ pos 0 ∷ pos 5 ∷ negsuc 0 ∷ negsuc 14 ∷ pos 0 ∷ []
+worths : map (λ t. curveWorth falling t .worth) (9 ∷ 10 ∷ 13 ∷ 20 ∷ 21 ∷ []) ≡ None ∷ Of (pos 5) ∷ Of (negsuc 0) ∷ Of (negsuc 14) ∷ None ∷ []
 unfolding curveWorth curveRead piecesRead pieceNext pieceRead startRead signedRead endRead tailRead fieldOf ruleOf readAt judged valueAt upto aroundOk lineOk signedOf worthFrom standsAt worthAt worthIn listed
 worths = refl
 

@@ -3,9 +3,9 @@ use Prim.Native.Nat.{ℕ}
 use mathlib.Core.Bool.{cond}
 use mathlib.Core.List.{List}
 use lib.Dec.{ltb}
-use lib.IntN.{pos}
 use Rattle.cursor.specs.declared.Reading.{Reading}
 use Rattle.cursor.specs.Field.{gotAt}
+use Rattle.curve.specs.declared.Worth.the-variants.{None}
 use Rattle.curve.specs.Question.{worthFrom}
 use Rattle.book.specs.declared.worth.CurveWorth.{CurveWorth}
 use Rattle.book.specs.Format.{curveRead, tailRead}
@@ -18,5 +18,5 @@ unfoldable pub curveWorth : List ℕ → ℕ → CurveWorth
 curveWorth s t =
     let last = aloneRead s in
     cond (ltb 0 (last .number))
-    (record { number = last .number; place = last .place; worth = pos 0 })
+    (record { number = last .number; place = last .place; worth = None })
     (record { number = 0; place = 0; worth = worthFrom s 0 t })

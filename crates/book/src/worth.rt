@@ -4,13 +4,14 @@ ghost use Rattle.book.specs.CurveWorth.{curveWorth};
 use crate::pieces::curve_judged;
 use crate::reader::tail;
 use cursor::Reading;
+use curve::Worth;
 use curve::question::worth_at;
 
-// number: 0, or the refusal's, and then place is its place and worth is 0.
+// number: 0, or the refusal's, and then place is its place and worth is none.
 pub struct CurveWorth {
     pub number: u8,
     pub place: usize,
-    pub worth: i64,
+    pub worth: Worth,
 }
 
 pub fn worth_of_curve(s: &[u8], t: u32) -> CurveWorth
@@ -27,7 +28,7 @@ pub fn worth_of_curve(s: &[u8], t: u32) -> CurveWorth
         return CurveWorth {
             number: last.number,
             place: last.place,
-            worth: 0,
+            worth: Worth::None,
         };
     }
     let worth = worth_at(s, 0, t);

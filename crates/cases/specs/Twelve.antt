@@ -16,9 +16,9 @@ use Rattle.curve.specs.Density.{denserThan}
 use Rattle.gus.specs.State.{afterAll}
 use Rattle.gus.specs.Waits.{holderFrom, chainTo, chainOf}
 use Rattle.gus.specs.Course.{earned, onward, toFree, toEnd, denser}
-use Rattle.gus.specs.Choice.{reckon, byDensity}
+use Rattle.gus.specs.Choice.{reckon, preferred, byDensity}
 use Rattle.gus.specs.Group.{partOf, grow, groupOf}
-use Rattle.gus.specs.Round.{better, consider, bestOf, rounds}
+use Rattle.gus.specs.Round.{better, offered, consider, bestOf, rounds}
 use Rattle.gus.specs.Victims.{circleFrom, circleOf, lossOf, lesser, offer, victimOf, victimsTo, victimsOf, knotTo, knotOf, settled}
 use Rattle.gus.specs.Plan.{answerTo}
 use Rattle.laws.specs.Count.{upto}
@@ -235,8 +235,100 @@ chained = record {
   word = 5;
 }
 
+-- Beside the twelve, R-7 (02): "outside the curve is not zero". Job 0 10/5, termination 8, never, holds r0 for 10; job 1 5/22 requests r0 (5, 1).
+-- Job 0 is late, so that no group behind it is a candidate.
+lateBefore : Case
+lateBefore = record {
+  book = ((0 ∷ 66 ∷ 1 ∷ 2 ∷ 1 ∷ 0 ∷ 0 ∷ 0 ∷ 0 ∷ [])
+      ++ (0 ∷ 0 ∷ 10 ∷ 255 ∷ 255 ∷ 255 ∷ 0 ∷ 0 ∷ 0 ∷ 0 ∷ 1 ∷ 0 ∷ 0 ∷ 10 ∷ 255 ∷ 255 ∷ 1 ∷ 0 ∷ 0 ∷ 0 ∷ 0 ∷ 0 ∷ 0 ∷ 0 ∷ 5 ∷ 0 ∷ 0 ∷ 0 ∷ 0 ∷ 0 ∷ 8 ∷ [])
+      ++ (0 ∷ 0 ∷ 5 ∷ 0 ∷ 1 ∷ 0 ∷ 0 ∷ 5 ∷ 0 ∷ 1 ∷ 0 ∷ 1 ∷ 0 ∷ 0 ∷ 0 ∷ 0 ∷ 0 ∷ 0 ∷ 0 ∷ 22 ∷ 0 ∷ 0 ∷ 0 ∷ 0 ∷ 3 ∷ 232 ∷ []));
+  outcome = bytes ((0 ∷ 14 ∷ 1 ∷ 0 ∷ [])
+      ++ (0 ∷ [])
+      ++ (0 ∷ 0 ∷ 0 ∷ 0 ∷ 0 ∷ 0 ∷ 0 ∷ 0 ∷ 0 ∷ []));
+  first = nothing;
+  word = 0;
+}
+
+-- The same with a first start at 11 and a termination at 1,000, and with a first start at 10, when it finishes
+tooSoon : Case
+tooSoon = record {
+  book = ((0 ∷ 66 ∷ 1 ∷ 2 ∷ 1 ∷ 0 ∷ 0 ∷ 0 ∷ 0 ∷ [])
+      ++ (0 ∷ 0 ∷ 10 ∷ 255 ∷ 255 ∷ 255 ∷ 0 ∷ 0 ∷ 0 ∷ 0 ∷ 1 ∷ 0 ∷ 0 ∷ 10 ∷ 255 ∷ 255 ∷ 1 ∷ 0 ∷ 0 ∷ 0 ∷ 11 ∷ 0 ∷ 0 ∷ 0 ∷ 5 ∷ 0 ∷ 0 ∷ 0 ∷ 0 ∷ 3 ∷ 232 ∷ [])
+      ++ (0 ∷ 0 ∷ 5 ∷ 0 ∷ 1 ∷ 0 ∷ 0 ∷ 5 ∷ 0 ∷ 1 ∷ 0 ∷ 1 ∷ 0 ∷ 0 ∷ 0 ∷ 0 ∷ 0 ∷ 0 ∷ 0 ∷ 22 ∷ 0 ∷ 0 ∷ 0 ∷ 0 ∷ 3 ∷ 232 ∷ []));
+  outcome = bytes ((0 ∷ 14 ∷ 1 ∷ 0 ∷ [])
+      ++ (0 ∷ [])
+      ++ (0 ∷ 0 ∷ 0 ∷ 0 ∷ 0 ∷ 0 ∷ 0 ∷ 0 ∷ 0 ∷ []));
+  first = nothing;
+  word = 0;
+}
+
+soonEnough : Case
+soonEnough = record {
+  book = ((0 ∷ 66 ∷ 1 ∷ 2 ∷ 1 ∷ 0 ∷ 0 ∷ 0 ∷ 0 ∷ [])
+      ++ (0 ∷ 0 ∷ 10 ∷ 255 ∷ 255 ∷ 255 ∷ 0 ∷ 0 ∷ 0 ∷ 0 ∷ 1 ∷ 0 ∷ 0 ∷ 10 ∷ 255 ∷ 255 ∷ 1 ∷ 0 ∷ 0 ∷ 0 ∷ 10 ∷ 0 ∷ 0 ∷ 0 ∷ 5 ∷ 0 ∷ 0 ∷ 0 ∷ 0 ∷ 3 ∷ 232 ∷ [])
+      ++ (0 ∷ 0 ∷ 5 ∷ 0 ∷ 1 ∷ 0 ∷ 0 ∷ 5 ∷ 0 ∷ 1 ∷ 0 ∷ 1 ∷ 0 ∷ 0 ∷ 0 ∷ 0 ∷ 0 ∷ 0 ∷ 0 ∷ 22 ∷ 0 ∷ 0 ∷ 0 ∷ 0 ∷ 3 ∷ 232 ∷ []));
+  outcome = bytes ((0 ∷ 22 ∷ 1 ∷ 0 ∷ [])
+      ++ (2 ∷ [])
+      ++ (0 ∷ 0 ∷ 0 ∷ 10 ∷ [])
+      ++ (1 ∷ 0 ∷ 0 ∷ 5 ∷ [])
+      ++ (1 ∷ 0 ∷ 0 ∷ 0 ∷ 27 ∷ 0 ∷ 0 ∷ 0 ∷ 15 ∷ []));
+  first = found (partOf 0 false 10);
+  word = 10;
+}
+
+-- Rollback times of 12 in place of never: the normal course has none among its credits, and loses, though it takes less time
+lateUndone : Case
+lateUndone = record {
+  book = ((0 ∷ 66 ∷ 1 ∷ 2 ∷ 1 ∷ 0 ∷ 0 ∷ 0 ∷ 0 ∷ [])
+      ++ (0 ∷ 0 ∷ 10 ∷ 0 ∷ 12 ∷ 255 ∷ 0 ∷ 0 ∷ 0 ∷ 0 ∷ 1 ∷ 0 ∷ 0 ∷ 10 ∷ 0 ∷ 12 ∷ 1 ∷ 0 ∷ 0 ∷ 0 ∷ 0 ∷ 0 ∷ 0 ∷ 0 ∷ 5 ∷ 0 ∷ 0 ∷ 0 ∷ 0 ∷ 0 ∷ 8 ∷ [])
+      ++ (0 ∷ 0 ∷ 5 ∷ 0 ∷ 1 ∷ 0 ∷ 0 ∷ 5 ∷ 0 ∷ 1 ∷ 0 ∷ 1 ∷ 0 ∷ 0 ∷ 0 ∷ 0 ∷ 0 ∷ 0 ∷ 0 ∷ 22 ∷ 0 ∷ 0 ∷ 0 ∷ 0 ∷ 3 ∷ 232 ∷ []));
+  outcome = bytes ((0 ∷ 22 ∷ 1 ∷ 0 ∷ [])
+      ++ (2 ∷ [])
+      ++ (0 ∷ 1 ∷ 0 ∷ 12 ∷ [])
+      ++ (1 ∷ 0 ∷ 0 ∷ 5 ∷ [])
+      ++ (1 ∷ 0 ∷ 0 ∷ 0 ∷ 22 ∷ 0 ∷ 0 ∷ 0 ∷ 17 ∷ []));
+  first = found (partOf 0 true 12);
+  word = 65548;
+}
+
+-- Job 0 20/0 holds r0 (6, rollback 1); job 1 4/5, termination 2, rollback 2, holds r1 (4, 2), requests r0 (4, 1); job 2 3/30 requests r1 (3, 1).
+-- Both courses of job 0 have job 1's none, and normal wins; then job 1 is rolled back.
+bothLate : Case
+bothLate = record {
+  book = ((0 ∷ 97 ∷ 1 ∷ 3 ∷ 2 ∷ 0 ∷ 0 ∷ 0 ∷ 0 ∷ [])
+      ++ (0 ∷ 0 ∷ 20 ∷ 0 ∷ 1 ∷ 255 ∷ 0 ∷ 0 ∷ 0 ∷ 0 ∷ 1 ∷ 0 ∷ 0 ∷ 6 ∷ 0 ∷ 1 ∷ 1 ∷ 0 ∷ 0 ∷ 0 ∷ 0 ∷ 0 ∷ 0 ∷ 0 ∷ 0 ∷ 0 ∷ 0 ∷ 0 ∷ 0 ∷ 3 ∷ 232 ∷ [])
+      ++ (0 ∷ 0 ∷ 4 ∷ 0 ∷ 2 ∷ 0 ∷ 0 ∷ 4 ∷ 0 ∷ 1 ∷ 1 ∷ 1 ∷ 0 ∷ 4 ∷ 0 ∷ 2 ∷ 1 ∷ 0 ∷ 0 ∷ 0 ∷ 0 ∷ 0 ∷ 0 ∷ 0 ∷ 5 ∷ 0 ∷ 0 ∷ 0 ∷ 0 ∷ 0 ∷ 2 ∷ [])
+      ++ (0 ∷ 0 ∷ 3 ∷ 0 ∷ 1 ∷ 1 ∷ 0 ∷ 3 ∷ 0 ∷ 1 ∷ 0 ∷ 1 ∷ 0 ∷ 0 ∷ 0 ∷ 0 ∷ 0 ∷ 0 ∷ 0 ∷ 30 ∷ 0 ∷ 0 ∷ 0 ∷ 0 ∷ 3 ∷ 232 ∷ []));
+  outcome = bytes ((0 ∷ 26 ∷ 1 ∷ 0 ∷ [])
+      ++ (3 ∷ [])
+      ++ (0 ∷ 0 ∷ 0 ∷ 6 ∷ [])
+      ++ (1 ∷ 1 ∷ 0 ∷ 2 ∷ [])
+      ++ (2 ∷ 0 ∷ 0 ∷ 3 ∷ [])
+      ++ (1 ∷ 0 ∷ 0 ∷ 0 ∷ 30 ∷ 0 ∷ 0 ∷ 0 ∷ 11 ∷ []));
+  first = found (partOf 0 false 6);
+  word = 6;
+}
+
+-- Job 0 20/0, rollback 7, holds r0 (6, 7); job 1 run 4, worth -1,000 and from 11 on 0, holds r1 (4, 1), requests r0 (4, 1); job 2 3/30, termination 13,
+-- requests r1 (3, 1). The denser course, rolling job 0 back, has job 2's none, and loses.
+undoneLate : Case
+undoneLate = record {
+  book = ((0 ∷ 107 ∷ 1 ∷ 3 ∷ 2 ∷ 0 ∷ 0 ∷ 0 ∷ 0 ∷ [])
+      ++ (0 ∷ 0 ∷ 20 ∷ 0 ∷ 7 ∷ 255 ∷ 0 ∷ 0 ∷ 0 ∷ 0 ∷ 1 ∷ 0 ∷ 0 ∷ 6 ∷ 0 ∷ 7 ∷ 1 ∷ 0 ∷ 0 ∷ 0 ∷ 0 ∷ 0 ∷ 0 ∷ 0 ∷ 0 ∷ 0 ∷ 0 ∷ 0 ∷ 0 ∷ 3 ∷ 232 ∷ [])
+      ++ (0 ∷ 0 ∷ 4 ∷ 0 ∷ 1 ∷ 0 ∷ 0 ∷ 4 ∷ 0 ∷ 1 ∷ 1 ∷ 1 ∷ 0 ∷ 4 ∷ 0 ∷ 1 ∷ 2 ∷ 0 ∷ 0 ∷ 0 ∷ 0 ∷ 255 ∷ 255 ∷ 252 ∷ 24 ∷ 0 ∷ 0 ∷ 0 ∷ 0 ∷ 0 ∷ 11 ∷ 0 ∷ 0 ∷ 0 ∷ 0 ∷ 0 ∷ 0 ∷ 0 ∷ 0 ∷ 3 ∷ 232 ∷ [])
+      ++ (0 ∷ 0 ∷ 3 ∷ 0 ∷ 1 ∷ 1 ∷ 0 ∷ 3 ∷ 0 ∷ 1 ∷ 0 ∷ 1 ∷ 0 ∷ 0 ∷ 0 ∷ 0 ∷ 0 ∷ 0 ∷ 0 ∷ 30 ∷ 0 ∷ 0 ∷ 0 ∷ 0 ∷ 0 ∷ 13 ∷ []));
+  outcome = bytes ((0 ∷ 26 ∷ 1 ∷ 0 ∷ [])
+      ++ (3 ∷ [])
+      ++ (0 ∷ 0 ∷ 0 ∷ 6 ∷ [])
+      ++ (1 ∷ 1 ∷ 0 ∷ 1 ∷ [])
+      ++ (2 ∷ 0 ∷ 0 ∷ 3 ∷ [])
+      ++ (1 ∷ 0 ∷ 0 ∷ 0 ∷ 30 ∷ 0 ∷ 0 ∷ 0 ∷ 10 ∷ []));
+  first = found (partOf 0 false 6);
+  word = 6;
+}
+
 table : List Case
-table = case1 ∷ case2 ∷ case3 ∷ case4 ∷ case5 ∷ case6 ∷ case7 ∷ case8 ∷ case9 ∷ case10 ∷ case11 ∷ case12 ∷ chained ∷ []
+table = case1 ∷ case2 ∷ case3 ∷ case4 ∷ case5 ∷ case6 ∷ case7 ∷ case8 ∷ case9 ∷ case10 ∷ case11 ∷ case12 ∷ chained ∷ lateBefore ∷ tooSoon ∷ soonEnough ∷ lateUndone ∷ bothLate ∷ undoneLate ∷ []
 
 -- the answers, the first parts by one round, and the numbers that C gets for them
 abbrev Twelve : Type 0
@@ -246,7 +338,7 @@ Twelve =
     × (map (λ c. firstWord (firstIn (plannedTo 1 byDensity (c .book)))) table ≡ map (λ c. c .word) table)
 
 twelve : Twelve
-unfolding table case1 case2 case3 case4 case5 case6 case7 case8 case9 case10 case11 case12 chained outcomeOf valueAt judged readAt fieldOf ruleOf rollbackOk requestOk ifRequested leastRollback modeOk signedOf aroundOk lineOk headerOf rollbackRead requestedResource requestedRollback requestRead unheldRead heldResource entryRead entryNext heldRead startRead signedRead pieceRead pieceNext piecesRead endRead curveRead recordRead recordNext noRecords recordsRead tailRead acceptedBook refusedBook bookOf granted ran rolledBack worthIn worthAt denserThan afterAll holderFrom chainTo chainOf earned onward toFree toEnd denser reckon byDensity grow groupOf better consider bestOf rounds circleFrom circleOf lossOf lesser offer victimOf victimsTo victimsOf knotTo knotOf settled answerTo upto padded heldFrom jobFrom laidPlan refusedPlan answeredTo plannedTo two four bits partBytes partsBytes answerBytes firstIn word partWord firstWord
+unfolding table case1 case2 case3 case4 case5 case6 case7 case8 case9 case10 case11 case12 chained lateBefore tooSoon soonEnough lateUndone bothLate undoneLate outcomeOf valueAt judged readAt fieldOf ruleOf rollbackOk requestOk ifRequested leastRollback modeOk signedOf aroundOk lineOk headerOf rollbackRead requestedResource requestedRollback requestRead unheldRead heldResource entryRead entryNext heldRead startRead signedRead pieceRead pieceNext piecesRead endRead curveRead recordRead recordNext noRecords recordsRead tailRead acceptedBook refusedBook bookOf granted ran rolledBack worthIn worthAt denserThan afterAll holderFrom chainTo chainOf earned onward toFree toEnd denser reckon preferred byDensity grow groupOf better offered consider bestOf rounds circleFrom circleOf lossOf lesser offer victimOf victimsTo victimsOf knotTo knotOf settled answerTo upto padded heldFrom jobFrom laidPlan refusedPlan answeredTo plannedTo two four bits partBytes partsBytes answerBytes firstIn word partWord firstWord
 twelve = (refl, refl, refl)
 
 -- and the whole plans' first parts

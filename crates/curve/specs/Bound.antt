@@ -4,14 +4,17 @@ use mathlib.Core.Path.{_≡_}
 use Prim.Native.Nat.{ℕ, zero, suc, zero-le, _*_, _-_, _<_, _≤_, min}
 use native.Mathlib.Nat.{mul-le-mul-left}
 use native.Mathlib.Omega.{arith}
-use lib.Dec.{ltb, leb, nltb→le, nleb→lt}
+use lib.Dec.{ltb, leb}
 use lib.IntN.{ℤ, pos, negsuc, negℤ, natAbs, _+ℤ_, _*ℤ_}
 use lib.ListN.{getD}
-use borrow.Author.Tests.{lt-ltb, le-ltb}
-use Rattle.laws.specs.Signed.{by, parts}
+use borrow.Author.Tests.{lt-ltb, le-ltb, ltb-false, leb-false}
+use Rattle.laws.specs.Signed.{parts}
+use Rattle.cursor.specs.Outcome.{by-test}
 use Rattle.curve.specs.declared.Piece.{Piece}
 use Rattle.curve.specs.declared.Curve.{Curve}
-use Rattle.curve.specs.Worth.{noPiece, lineAt, worthIn, worthAt}
+use Rattle.curve.specs.declared.Worth.{Worth}
+use Rattle.curve.specs.declared.Worth.the-variants.{None, Of}
+use Rattle.curve.specs.Worth.{noPiece, lineAt, worthIn, worthAt, amount}
 
 -- "Curve values: -1,000,000 to 1,000,000"
 abbrev pub InRange : ℤ → Type 0
@@ -50,21 +53,21 @@ module _ {c : Curve} (a : Allowed c) (t : ℕ) where
   line-within i l h = between (pieceOf c i .value) (pieceOf c i .slope) (t - pieceOf c i .start) (endOf c i - pieceOf c i .start) (omega arith) (a .at-start i l) (a .at-end i l)
 
   -- a piece that starts after t leaves it to what came before
-  either : (i : ℕ) → i < c .count → t ≤ endOf c i → (w : ℤ) → (t < pieceOf c i .start → InRange w) → InRange (cond (leb (pieceOf c i .start) t) (lineAt (pieceOf c i) t) w)
-  either i l h w g = by (leb (pieceOf c i .start) t) (lineAt (pieceOf c i) t) w InRange (λ y. line-within i l h) (λ n. g (nleb→lt (pieceOf c i .start) t n))
+  either : (i : ℕ) → i < c .count → t ≤ endOf c i → (w : Worth) → (t < pieceOf c i .start → InRange (amount w)) → InRange (amount (cond (leb (pieceOf c i .start) t) (Of (lineAt (pieceOf c i) t)) w))
+  either i l h w g = by-test (leb (pieceOf c i .start) t) (Of (lineAt (pieceOf c i) t)) w (λ (x : Worth). InRange (amount x)) (λ y. line-within i l h) (λ n. g (leb-false (pieceOf c i .start) t n))
 
-  pieces-within : (i : ℕ) → i < c .count → t ≤ endOf c i → InRange (worthIn (c .pieces) t (suc i))
+  pieces-within : (i : ℕ) → i < c .count → t ≤ endOf c i → InRange (amount (worthIn (c .pieces) t (suc i)))
   unfolding worthIn
-  pieces-within zero l h = either zero l h (pos 0) (λ q. zero-le)
+  pieces-within zero l h = either zero l h None (λ q. zero-le)
   pieces-within (suc i) l h = either (suc i) l h (worthIn (c .pieces) t (suc i)) (λ q. pieces-within i (omega arith) (rw (lt-ltb (suc i) (c .count) l) (omega arith)))
 
   -- the last piece ends at termination
-  all-within : t ≤ c .end → InRange (worthIn (c .pieces) t (min (c .count) 8))
+  all-within : t ≤ c .end → InRange (amount (worthIn (c .pieces) t (min (c .count) 8)))
   all-within h =
       let all : min (c .count) 8 ≡ suc (c .count - 1) = omega (arith, a .some, a .few) in
       let last : c .count ≤ suc (c .count - 1) = omega arith in
       rw all (pieces-within (c .count - 1) (omega (arith, a .some)) (rw (le-ltb (suc (c .count - 1)) (c .count) last) h))
 
-  pub worth-within : InRange (worthAt c t)
+  pub worth-within : InRange (amount (worthAt c t))
   unfolding worthAt
-  worth-within = by (ltb (c .end) t) (pos 0) (worthIn (c .pieces) t (min (c .count) 8)) InRange (λ y. zero-le) (λ n. all-within (nltb→le (c .end) t n))
+  worth-within = by-test (ltb (c .end) t) None (worthIn (c .pieces) t (min (c .count) 8)) (λ (x : Worth). InRange (amount x)) (λ y. zero-le) (λ n. all-within (ltb-false (c .end) t n))

@@ -1,5 +1,6 @@
 -- A curve worked out: from 10 on it falls from 100 by 2 a millisecond, from 20 on it rises from 7 by 1, and it ends at 30.
 use mathlib.Core.Path.{_≡_, refl}
+use mathlib.Core.Bool.{true, false}
 use mathlib.Core.List.{List, [], _∷_, map}
 use Prim.Native.Nat.{ℕ, zero, suc, _<_}
 use native.Mathlib.Omega.{arith}
@@ -9,7 +10,8 @@ use Rattle.laws.specs.Count.{upto}
 use Rattle.laws.specs.Listed.{listed}
 use Rattle.cursor.specs.Field.{valueAt}
 use Rattle.curve.specs.declared.Curve.{Curve}
-use Rattle.curve.specs.Worth.{noPiece, lineAt, worthIn, worthAt}
+use Rattle.curve.specs.declared.Worth.the-variants.{None, Of}
+use Rattle.curve.specs.Worth.{noPiece, lineAt, worthIn, worthAt, defined, amount}
 use Rattle.curve.specs.Layout.{signedOf, curveAt}
 use Rattle.curve.specs.Question.{standsAt, worthFrom}
 use Rattle.curve.specs.Before.{worthBack, worthBefore}
@@ -23,9 +25,16 @@ sample = record {
 }
 
 -- before the first start, at it, inside, 1 ms before the next start, at it, at termination, after it
-sample-worth : map (worthAt sample) (9 ∷ 10 ∷ 13 ∷ 19 ∷ 20 ∷ 30 ∷ 31 ∷ []) ≡ pos 0 ∷ pos 100 ∷ pos 94 ∷ pos 82 ∷ pos 7 ∷ pos 17 ∷ pos 0 ∷ []
+sample-worth : map (worthAt sample) (9 ∷ 10 ∷ 13 ∷ 19 ∷ 20 ∷ 30 ∷ 31 ∷ []) ≡ None ∷ Of (pos 100) ∷ Of (pos 94) ∷ Of (pos 82) ∷ Of (pos 7) ∷ Of (pos 17) ∷ None ∷ []
 unfolding worthAt worthIn
 sample-worth = refl
+
+-- none is not a worth of 0, and where it has to be a number it counts as 0
+none-is-not-zero : map defined (None ∷ Of (pos 0) ∷ Of (negsuc 4) ∷ []) ≡ false ∷ true ∷ true ∷ []
+none-is-not-zero = refl
+
+none-counts : map amount (None ∷ Of (pos 0) ∷ Of (negsuc 4) ∷ []) ≡ pos 0 ∷ pos 0 ∷ negsuc 4 ∷ []
+none-counts = refl
 
 -- the rules allow it
 sample-allowed : Allowed sample
@@ -65,24 +74,24 @@ unfolding listed upto valueAt signedOf
 stands-there = refl
 
 -- asked where it stands, a byte too early (a count of 7, which the bytes are too few for), past the end; and cut by a byte
-asked : map (λ p. worthFrom bytes p 13) (2 ∷ 1 ∷ 27 ∷ []) ≡ pos 94 ∷ pos 0 ∷ pos 0 ∷ []
+asked : map (λ p. worthFrom bytes p 13) (2 ∷ 1 ∷ 27 ∷ []) ≡ Of (pos 94) ∷ None ∷ None ∷ []
 unfolding worthFrom standsAt worthAt worthIn listed upto valueAt signedOf
 asked = refl
 
-cut : worthFrom (take 26 bytes) 2 13 ≡ pos 0
+cut : worthFrom (take 26 bytes) 2 13 ≡ None
 unfolding worthFrom standsAt worthAt worthIn listed upto valueAt signedOf
 cut = refl
 
 -- asked at its termination with both its pieces, with the last alone, with none; and a byte too far on, where it is cut
-asked-back : map (λ n. worthBefore bytes 23 n 13) (2 ∷ 1 ∷ 0 ∷ []) ≡ pos 94 ∷ pos 0 ∷ pos 0 ∷ []
+asked-back : map (λ n. worthBefore bytes 23 n 13) (2 ∷ 1 ∷ 0 ∷ []) ≡ Of (pos 94) ∷ None ∷ None ∷ []
 unfolding worthBefore worthBack valueAt signedOf
 asked-back = refl
 
-cut-back : worthBefore bytes 24 2 13 ≡ pos 0
+cut-back : worthBefore bytes 24 2 13 ≡ None
 unfolding worthBefore worthBack valueAt signedOf
 cut-back = refl
 
 -- and where the bytes begin before its pieces do
-short-back : worthBefore bytes 3 1 0 ≡ pos 0
+short-back : worthBefore bytes 3 1 0 ≡ None
 unfolding worthBefore worthBack valueAt signedOf
 short-back = refl

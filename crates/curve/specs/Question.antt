@@ -5,12 +5,13 @@ use mathlib.Core.Bool.{Bool, true, false, _&&_, cond}
 use mathlib.Core.List.{List}
 use mathlib.Core.Path.{_≡_, refl, _∙_}
 use lib.Dec.{leb}
-use lib.IntN.{ℤ, pos}
 use lib.ListN.{length, getD}
 use borrow.Author.Tests.{le-leb, lt-leb}
 use Rattle.laws.specs.Listed.{listed-at}
 use Rattle.cursor.specs.Field.{valueAt}
 use Rattle.curve.specs.declared.Piece.{Piece}
+use Rattle.curve.specs.declared.Worth.{Worth}
+use Rattle.curve.specs.declared.Worth.the-variants.{None}
 use Rattle.curve.specs.Worth.{noPiece, worthIn, worthAt}
 use Rattle.curve.specs.Walk.{worth-after, worth-until, Walking, walk-begin, walk-back, walk-none}
 use Rattle.curve.specs.Layout.{pieceAt, piecePlace, curveAt, curveEnd}
@@ -19,22 +20,22 @@ use Rattle.curve.specs.Layout.{pieceAt, piecePlace, curveAt, curveEnd}
 unfoldable pub standsAt : List ℕ → ℕ → Bool
 standsAt s p = leb (valueAt s p 1) 8 && leb (curveEnd s p) (length s)
 
--- THE WORTH OF THE CURVE AT A PLACE; 0 where none stands there
-unfoldable pub worthFrom : List ℕ → ℕ → ℕ → ℤ
-worthFrom s p t = cond (standsAt s p) (worthAt (curveAt s p) t) (pos 0)
+-- THE WORTH OF THE CURVE AT A PLACE; none where no curve stands there
+unfoldable pub worthFrom : List ℕ → ℕ → ℕ → Worth
+worthFrom s p t = cond (standsAt s p) (worthAt (curveAt s p) t) None
 
 module _ (s : List ℕ) (p : ℕ) where
   -- more pieces than a curve has
-  pub stands-many : (t : ℕ) → 8 < valueAt s p 1 → worthFrom s p t ≡ pos 0
+  pub stands-many : (t : ℕ) → 8 < valueAt s p 1 → worthFrom s p t ≡ None
   unfolding worthFrom standsAt
   stands-many t h = rw (lt-leb (valueAt s p 1) 8 h)
 
   -- fewer bytes
-  pub stands-cut : (t : ℕ) → length s < curveEnd s p → worthFrom s p t ≡ pos 0
+  pub stands-cut : (t : ℕ) → length s < curveEnd s p → worthFrom s p t ≡ None
   unfolding worthFrom standsAt
   stands-cut t h = by (leb (valueAt s p 1) 8)
     where
-      by : (b : Bool) → cond (b && leb (curveEnd s p) (length s)) (worthAt (curveAt s p) t) (pos 0) ≡ pos 0
+      by : (b : Bool) → cond (b && leb (curveEnd s p) (length s)) (worthAt (curveAt s p) t) None ≡ None
       by true = rw (lt-leb (curveEnd s p) (length s) h)
       by false = refl
 
@@ -43,7 +44,7 @@ module _ (s : List ℕ) (p : ℕ) where
     unfolding worthFrom standsAt
     stands = rw (le-leb (valueAt s p 1) 8 few, le-leb (curveEnd s p) (length s) h)
 
-    pub stands-after : curveAt s p .end < t → worthFrom s p t ≡ pos 0
+    pub stands-after : curveAt s p .end < t → worthFrom s p t ≡ None
     stands-after l = stands ∙ worth-after (curveAt s p) t l
 
     pub stands-until : t ≤ curveAt s p .end → worthFrom s p t ≡ worthIn (curveAt s p .pieces) t (valueAt s p 1)
@@ -70,5 +71,5 @@ module _ {pieces : List Piece} {t n first : ℕ} where
     pub back-next : first < at → t < getD pieces (b .left - 1) noPiece .start → Back pieces t n first (at - 10)
     back-next h q = record { left = b .left - 1; here = omega (arith, b .here); walking = walk-back (b .walking) (back-some h) q }
 
-    pub back-none : at ≤ first → pos 0 ≡ worthIn pieces t n
+    pub back-none : at ≤ first → None ≡ worthIn pieces t n
     back-none h = walk-none (b .walking) (omega (arith, b .here))

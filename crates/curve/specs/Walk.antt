@@ -5,14 +5,14 @@ use Prim.Native.Nat.{ℕ, zero, suc, _-_, _<_, _≤_, min}
 use native.Mathlib.Nat.{not-suc-le-zero}
 use native.Mathlib.Omega.{arith}
 use borrow.Author.Tests.{lt-ltb, le-ltb, le-leb, lt-leb}
-use lib.IntN.{pos}
 use lib.ListN.{getD}
 use Rattle.curve.specs.declared.Piece.{Piece}
 use Rattle.curve.specs.declared.Curve.{Curve}
+use Rattle.curve.specs.declared.Worth.the-variants.{None, Of}
 use Rattle.curve.specs.Worth.{noPiece, lineAt, worthIn, worthAt}
 
 module _ (c : Curve) (t : ℕ) where
-  pub worth-after : c .end < t → worthAt c t ≡ pos 0
+  pub worth-after : c .end < t → worthAt c t ≡ None
   unfolding worthAt
   worth-after h = rw (lt-ltb (c .end) t h)
 
@@ -21,7 +21,7 @@ module _ (c : Curve) (t : ℕ) where
   worth-until h = rw (le-ltb (c .end) t h)
 
 module _ (pieces : List Piece) (t : ℕ) where
-  served : (k : ℕ) → 0 < k → getD pieces (k - 1) noPiece .start ≤ t → worthIn pieces t k ≡ lineAt (getD pieces (k - 1) noPiece) t
+  served : (k : ℕ) → 0 < k → getD pieces (k - 1) noPiece .start ≤ t → worthIn pieces t k ≡ Of (lineAt (getD pieces (k - 1) noPiece) t)
   unfolding worthIn
   served zero h q = absurd (not-suc-le-zero h)
   served (suc k) h q = let e : suc k - 1 ≡ k = omega arith in rw (e, le-leb (getD pieces k noPiece .start) t (rw e at q))
@@ -31,7 +31,7 @@ module _ (pieces : List Piece) (t : ℕ) where
   passed zero h q = absurd (not-suc-le-zero h)
   passed (suc k) h q = let e : suc k - 1 ≡ k = omega arith in rw (e, lt-leb (getD pieces k noPiece .start) t (rw e at q))
 
-  none : (k : ℕ) → k ≤ 0 → worthIn pieces t k ≡ pos 0
+  none : (k : ℕ) → k ≤ 0 → worthIn pieces t k ≡ None
   unfolding worthIn
   none zero h = refl
   none (suc k) h = absurd (not-suc-le-zero h)
@@ -49,8 +49,8 @@ module _ {pieces : List Piece} {t n : ℕ} where
     pub walk-back : 0 < k → t < getD pieces (k - 1) noPiece .start → Walking pieces t n (k - 1)
     walk-back h q = record { within = omega arith; same = sym (passed pieces t k h q) ∙ w .same }
 
-    pub walk-served : 0 < k → getD pieces (k - 1) noPiece .start ≤ t → lineAt (getD pieces (k - 1) noPiece) t ≡ worthIn pieces t n
+    pub walk-served : 0 < k → getD pieces (k - 1) noPiece .start ≤ t → Of (lineAt (getD pieces (k - 1) noPiece) t) ≡ worthIn pieces t n
     walk-served h q = sym (served pieces t k h q) ∙ w .same
 
-    pub walk-none : k ≤ 0 → pos 0 ≡ worthIn pieces t n
+    pub walk-none : k ≤ 0 → None ≡ worthIn pieces t n
     walk-none h = sym (none pieces t k h) ∙ w .same

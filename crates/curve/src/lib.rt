@@ -21,6 +21,12 @@ pub struct Curve {
     pub end: u32,
 }
 
+// What finishing at a moment is worth. `None` is outside the curve, and not a worth of 0 (02, R-7).
+pub enum Worth {
+    None,
+    Of(i64),
+}
+
 fn since(start: u32, t: u32) -> u32
     ensures { λ r. ⌜ r ≡ t - start ⌝ }
 {

@@ -9,6 +9,7 @@ ghost use Rattle.curve.specs.Layout.{pieceAt, piecePlace, curveAt};
 ghost use Rattle.curve.specs.Question.{worthFrom};
 ghost use Rattle.curve.specs.Before.{worthBack, worthBefore};
 use crate::Piece;
+use crate::Worth;
 use crate::fields::piece_from;
 use crate::line_at;
 use cursor::field::value_at;
@@ -33,7 +34,7 @@ fn piece_at(s: &[u8], place: usize) -> Piece
 }
 
 // By the pieces of the curve at a place, whose termination stands at `end`.
-fn worth_in(s: &[u8], place: usize, end: usize, t: u32) -> i64
+fn worth_in(s: &[u8], place: usize, end: usize, t: u32) -> Worth
     requires { ⌜ (valueAt (now s) place 1 ≤ 8) × ((end ≡ piecePlace place (valueAt (now s) place 1)) × (end ≤ length (now s))) ⌝ }
     ensures { λ r. ⌜ r ≡ worthIn (curveAt (now (s .entry)) place .pieces) t (valueAt (now (s .entry)) place 1) ⌝ }
 {
@@ -43,35 +44,36 @@ fn worth_in(s: &[u8], place: usize, end: usize, t: u32) -> i64
         at -= 10;
         let p = piece_at(s, at);
         if p.start <= t {
-            return line_at(p, t);
+            let v = line_at(p, t);
+            return Worth::Of(v);
         }
     }
-    0
+    Worth::None
 }
 
-// Of any bytes, at any place; 0 where no curve stands.
-pub fn worth_at(s: &[u8], place: usize, t: u32) -> i64
+// Of any bytes, at any place; none where no curve stands.
+pub fn worth_at(s: &[u8], place: usize, t: u32) -> Worth
     ensures { λ r. ⌜ r ≡ worthFrom (now (s .entry)) place t ⌝ }
 {
     if s.len() <= place {
-        return 0;
+        return Worth::None;
     }
     let count = field_there(s, place, 1);
     if 8 < count {
-        return 0;
+        return Worth::None;
     }
     if s.len() - place < 10 * count + 5 {
-        return 0;
+        return Worth::None;
     }
     let end = place + 1 + 10 * count;
     let termination = field_there(s, end, 4);
     if termination < t as usize {
-        return 0;
+        return Worth::None;
     }
     worth_in(s, place, end, t)
 }
 
-fn worth_back(s: &[u8], end: usize, pieces: usize, t: u32) -> i64
+fn worth_back(s: &[u8], end: usize, pieces: usize, t: u32) -> Worth
     requires { ⌜ end ≤ length (now s) ⌝ }
     ensures { λ r. ⌜ r ≡ worthBack (now (s .entry)) end t pieces ⌝ }
 {
@@ -79,32 +81,33 @@ fn worth_back(s: &[u8], end: usize, pieces: usize, t: u32) -> i64
     let mut left = pieces;
     while 0 < left {
         if place < 10 {
-            return 0;
+            return Worth::None;
         }
         place -= 10;
         left -= 1;
         let piece = piece_at(s, place);
         if piece.start <= t {
-            return line_at(piece, t);
+            let v = line_at(piece, t);
+            return Worth::Of(v);
         }
     }
-    0
+    Worth::None
 }
 
 // Of the curve whose termination stands at `end`, with so many pieces before it: for a caller that knows both, so that nothing is read
 // twice.
-pub fn worth_before(s: &[u8], end: usize, pieces: usize, t: u32) -> i64
+pub fn worth_before(s: &[u8], end: usize, pieces: usize, t: u32) -> Worth
     ensures { λ r. ⌜ r ≡ worthBefore (now (s .entry)) end pieces t ⌝ }
 {
     if s.len() < 4 {
-        return 0;
+        return Worth::None;
     }
     if s.len() - 4 < end {
-        return 0;
+        return Worth::None;
     }
     let until = field_there(s, end, 4);
     if until < t as usize {
-        return 0;
+        return Worth::None;
     }
     worth_back(s, end, pieces, t)
 }

@@ -1,4 +1,4 @@
--- The choice of a mode (VI.5, with line 31 read as 01 says, and R-3's sentence of 02).
+-- The choice of a mode (VI.5, with line 31 read as 01 says, and the sentences of R-3 and R-7 of 02).
 use mathlib.Core.Bool.{Bool, true, false}
 use mathlib.Core.List.{List, [], _∷_}
 use Prim.Native.Nat.{ℕ}
@@ -19,7 +19,15 @@ reckon v t [] c = c
 reckon v t (i ∷ []) c = toEnd v t i c
 reckon v t (i ∷ k ∷ ks) c = reckon v t (k ∷ ks) (toFree v t i k (v .rolling i) c)
 
--- "rollback if already so; normal if marked never. Else both courses are reckoned", "Normal wins ties"
+-- whether the course of rolling back wins over the normal one: "a course with none among its credits loses to one without, and if both have it
+-- normal wins" (R-7); "Normal wins ties"
+unfoldable pub preferred : Course → Course → Bool
+preferred back normal = elim (back .inside) [
+  | true ↦ elim (normal .inside) [ true ↦ denser back normal | false ↦ true ]
+  | false ↦ false
+]
+
+-- "rollback if already so; normal if marked never. Else both courses are reckoned"
 unfoldable pub byDensity : Way
 byDensity v t i k ks c =
     elim (v .rolling i) [
@@ -27,6 +35,6 @@ byDensity v t i k ks c =
       | false ↦
           elim (eqb (v .rollback i) never) [
             | true ↦ false
-            | false ↦ denser (reckon v t (k ∷ ks) (toFree v t i k true c)) (reckon v t (k ∷ ks) (toFree v t i k false c))
+            | false ↦ preferred (reckon v t (k ∷ ks) (toFree v t i k true c)) (reckon v t (k ∷ ks) (toFree v t i k false c))
           ]
     ]

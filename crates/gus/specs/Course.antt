@@ -1,14 +1,17 @@
 -- Time and utility along a row of parts, in either mode.
-use mathlib.Core.Bool.{Bool, true, false, cond}
+use mathlib.Core.Bool.{Bool, true, false, _&&_, cond}
 use Prim.Native.Nat.{ℕ, _+_}
 use lib.Dec.{eqb}
-use lib.IntN.{ℤ, pos, _+ℤ_}
+use lib.IntN.{pos, _+ℤ_}
+use Rattle.curve.specs.declared.Worth.{Worth}
+use Rattle.curve.specs.declared.Worth.the-variants.{Of}
+use Rattle.curve.specs.Worth.{defined, amount}
 use Rattle.curve.specs.Density.{denserThan}
 use Rattle.gus.specs.declared.Course.{Course}
 use Rattle.gus.specs.View.{View}
 
 abbrev pub start : Course
-start = record { time = 0; gain = pos 0 }
+start = record { time = 0; gain = pos 0; inside = true }
 
 -- the time of a part in a mode: until what k requests is free, and until job i ends
 abbrev pub span : View → Bool → ℕ → ℕ
@@ -18,16 +21,19 @@ abbrev pub whole : View → Bool → ℕ → ℕ
 whole v b i = cond b (v .rollback i) (v .run i)
 
 -- WHAT A PART EARNS, in a group and in the choice of a mode alike: n of job i in the mode b, ended at a moment. "A normal run that is all its
--- run time left earns its worth at that moment."
-unfoldable pub earned : View → ℕ → Bool → ℕ → ℕ → ℤ
-earned v i b n moment = elim b [ true ↦ pos 0 | false ↦ elim (eqb n (v .run i)) [ true ↦ v .worth i moment | false ↦ pos 0 ] ]
+-- run time left earns its worth at that moment": a finish, in either mode, earns what it is worth in that mode, or none. A part that finishes
+-- nothing earns 0.
+unfoldable pub earned : View → ℕ → Bool → ℕ → ℕ → Worth
+earned v i b n moment = elim (eqb n (whole v b i)) [ true ↦ v .worth b i moment | false ↦ Of (pos 0) ]
 
--- that part after a course that began at t
+-- that part after a course that began at t; by none the course is no longer inside its curves, whatever comes after it
 unfoldable pub onward : View → ℕ → ℕ → Bool → ℕ → Course → Course
-onward v t i b n c = record { time = c .time + n; gain = c .gain +ℤ earned v i b n (t + (c .time + n)) }
+onward v t i b n c =
+    let w = earned v i b n (t + (c .time + n)) in
+    record { time = c .time + n; gain = c .gain +ℤ amount w; inside = defined w && c .inside }
 
 -- job i until what k requests is free; and in its own mode to its end: "runs to its end and earns its worth, or, if in rollback, rolls back to
--- its end and earns nothing"
+-- its end"
 unfoldable pub toFree : View → ℕ → ℕ → ℕ → Bool → Course → Course
 toFree v t i k b c = onward v t i b (span v b k) c
 

@@ -22,8 +22,12 @@ better i c b = elim (b .some) [
   | false ↦ record { some = true; last = i; course = c }
 ]
 
+-- "A group in which any job would finish at a moment with none is not a candidate" (R-7): it is passed over, and no density of it is compared
+unfoldable pub offered : ℕ → Course → Best → Best
+offered i c b = elim (c .inside) [ true ↦ better i c b | false ↦ b ]
+
 unfoldable pub consider : Way → View → ℕ → ℕ → Best → Best
-consider way v t i b = elim (v .left i) [ true ↦ better i (groupOf way v t i .course) b | false ↦ b ]
+consider way v t i b = elim (v .left i) [ true ↦ offered i (groupOf way v t i .course) b | false ↦ b ]
 
 abbrev pub noBest : Best
 noBest = record { some = false; last = 0; course = start }
@@ -43,7 +47,7 @@ stop t = record { parts = []; rounds = 0; total = pos 0; end = t }
 abbrev pub joined : Group → Plan → Plan
 joined g p = record { parts = g .parts ++ p .parts; rounds = suc (p .rounds); total = g .course .gain +ℤ p .total; end = p .end }
 
--- "is appended if above zero, and a round is counted. Otherwise the plan ends."
+-- "is appended if above zero, and a round is counted. Otherwise the plan ends." Where there is no candidate, nothing is above zero.
 abbrev pub worthwhile : Course → Bool
 worthwhile c = ltZ (pos 0) (c .gain)
 

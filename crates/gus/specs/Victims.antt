@@ -5,6 +5,7 @@ use Prim.Native.Nat.{ℕ, zero, suc, _+_, min}
 use lib.Dec.{eqb, leb}
 use lib.ListN.{set}
 use Rattle.laws.specs.Count.{upto}
+use Rattle.curve.specs.Worth.{amount}
 use Rattle.job.specs.declared.Job.{Job}
 use Rattle.job.specs.Times.{never}
 use Rattle.job.specs.Job.{noRequest}
@@ -30,9 +31,9 @@ unfoldable pub circleOf : (ℕ → ℕ) → ℕ → ℕ
 circleOf waits i = circleFrom waits 32 i (waits i) i
 
 -- "least loss: worth at now + run time left, divided by run time left". 01 goes on "for a job in rollback, 0"; that is left out, since no
--- member of a circle is in rollback (R-8; opening/specs/CircleModes.antt).
+-- member of a circle is in rollback (R-8; opening/specs/CircleModes.antt). "For a victim's loss none counts as 0" (R-7).
 unfoldable pub lossOf : View → ℕ → ℕ → Course
-lossOf v t i = record { time = v .run i; gain = v .worth i (t + v .run i) }
+lossOf v t i = record { time = v .run i; gain = amount (v .worth false i (t + v .run i)); inside = true }
 
 -- job i against the best victim of those before it: "Ties go to the lowest number"
 unfoldable pub lesser : ℕ → Course → Best → Best

@@ -2,15 +2,15 @@
 use mathlib.Core.Bool.{Bool}
 use mathlib.Core.List.{List}
 use Prim.Native.Nat.{ℕ}
-use lib.IntN.{ℤ}
+use Rattle.curve.specs.declared.Worth.{Worth}
 use Rattle.job.specs.declared.Job.{Job}
 use Rattle.job.specs.Job.{holdOf, rollbackOf, isLeft}
 use Rattle.gus.specs.State.{jobAt}
 use Rattle.gus.specs.Waits.{waitsFor}
 
--- what finishing a job at a moment is worth
+-- what finishing a job in a mode, true for rollback, at a moment is worth, or none
 abbrev pub Pay : Type 0
-Pay = ℕ → ℕ → ℤ
+Pay = Bool → ℕ → ℕ → Worth
 
 -- hold and undo: how long the job that this one waits for needs, running or rolling back, until it frees what this one requests
 pub record View : Type 0 where

@@ -7,10 +7,12 @@ pub struct Part {
     pub time: u16,
 }
 
-// How long a row of parts takes, and what it earns.
+// How long a row of parts takes, what it earns, and whether each finish in it is inside its curve: where one is not, its worth is none, which
+// is not 0 (02, R-7), and the gain is that of the others.
 pub struct Course {
     pub time: u32,
     pub gain: i32,
+    pub inside: bool,
 }
 
 // The best group so far: whether there is one, its last job, its course.

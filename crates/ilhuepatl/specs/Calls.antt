@@ -6,6 +6,8 @@ use lib.Dec.{ltb}
 use lib.ListN.{length}
 use Rattle.laws.specs.Stores.{over}
 use Rattle.cursor.specs.Refusal.{ROOM}
+use Rattle.curve.specs.declared.Worth.{Worth}
+use Rattle.curve.specs.declared.Worth.the-variants.{None, Of}
 use Rattle.book.specs.declared.question.Found.{Found}
 use Rattle.book.specs.declared.worth.CurveWorth.{CurveWorth}
 use Rattle.gus.specs.declared.Part.{Part}
@@ -62,11 +64,16 @@ firstWord f =
       | false ↦ elim (f .some) [ true ↦ partWord (f .part) | false ↦ 0 ]
     ]
 
--- a curve's worth in one number, for C: a refusal as above, or the worth in 32 bits. A worth is at most a million away from 0, so that
--- most numbers below 2 ^ 32 are no worth's
+-- a worth in 32 bits, for C. A worth is at most a million away from 0, so that most numbers below 2 ^ 32 are no worth's; the one farthest from
+-- all of them, 2 ^ 31, is none (R-7)
+abbrev pub worthBits : Worth → ℕ
+worthBits None = 2147483648
+worthBits (Of z) = bits z
+
+-- a curve's worth in one number, for C: a refusal as above, or the worth
 unfoldable pub worthWord : CurveWorth → ℕ
 worthWord w =
     elim (ltb 0 (w .number)) [
       | true ↦ word (verdictOf (w .number) (w .place))
-      | false ↦ bits (w .worth)
+      | false ↦ worthBits (w .worth)
     ]

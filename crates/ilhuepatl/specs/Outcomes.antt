@@ -6,12 +6,10 @@ use Prim.Native.Nat.{ℕ, _+_, _*_, _%_, _<_, _≤_}
 use native.Mathlib.Omega.{arith}
 use lib.IntN.{natAbs}
 use lib.ListN.{length}
-use mir.Syntax.{w32}
-use mir.Val.{SFits}
 use borrow.Author.Tests.{lt-ltb, le-ltb}
-use Rattle.laws.specs.Signed.{fits-abs}
 use Rattle.laws.specs.Stores.{over}
 use Rattle.cursor.specs.Refusal.{ROOM}
+use Rattle.curve.specs.Worth.{amount}
 use Rattle.book.specs.declared.question.Found.{Found}
 use Rattle.book.specs.declared.worth.CurveWorth.{CurveWorth}
 use Rattle.book.specs.CurveWorth.{curveWorth}
@@ -20,8 +18,8 @@ use Rattle.planner.specs.declared.Planned.{Planned}
 use Rattle.planner.specs.declared.FirstPart.{FirstPart}
 use Rattle.planner.specs.Planned.{plannedOf}
 use Rattle.ilhuepatl.specs.declared.Verdict.{Verdict}
-use Rattle.ilhuepatl.specs.Answer.{bits, answerBytes}
-use Rattle.ilhuepatl.specs.Calls.{Outcome, verdictOf, byPlan, outcomeOf, word, recordWord, partWord, firstWord, worthWord}
+use Rattle.ilhuepatl.specs.Answer.{answerBytes}
+use Rattle.ilhuepatl.specs.Calls.{Outcome, verdictOf, byPlan, outcomeOf, word, recordWord, partWord, firstWord, worthBits, worthWord}
 
 -- with room the plan decides
 pub room : (book out : List ℕ) → 430 ≤ length out → {p : Planned} → p ≡ plannedOf book → byPlan p out ≡ outcomeOf book out
@@ -71,20 +69,19 @@ module _ {f g : FirstPart} (e : f ≡ g) {n : ℕ} where
 
 -- the two ways of a curve's worth, in one number
 abbrev worthBy : CurveWorth → Bool → ℕ
-worthBy w refused = elim refused as (λ _. ℕ) [ true ↦ word (verdictOf (w .number) (w .place)) | false ↦ bits (w .worth) ]
+worthBy w refused = elim refused as (λ _. ℕ) [ true ↦ word (verdictOf (w .number) (w .place)) | false ↦ worthBits (w .worth) ]
 
 module _ {w v : CurveWorth} (e : w ≡ v) {n : ℕ} where
   pub worth-refused : 0 < w .number → n ≡ word (verdictOf (w .number) (w .place)) → n ≡ worthWord v
   unfolding worthWord
   worth-refused l q = q ∙ sym (ap (worthBy w) (lt-ltb 0 (w .number) l)) ∙ ap worthWord e
 
-  pub worth-told : w .number ≤ 0 → n ≡ bits (w .worth) → n ≡ worthWord v
+  pub worth-told : w .number ≤ 0 → n ≡ worthBits (w .worth) → n ≡ worthWord v
   unfolding worthWord
   worth-told l q = q ∙ sym (ap (worthBy w) (le-ltb 0 (w .number) l)) ∙ ap worthWord e
 
--- which fits 32 bits
-pub worth-fits : (s : List ℕ) (t : ℕ) {w : CurveWorth} → w ≡ curveWorth s t → w .number ≤ 0 → SFits w32 (w .worth)
-worth-fits s t {w} e l =
+-- which is at most a million away from 0
+pub worth-small : (s : List ℕ) (t : ℕ) {w : CurveWorth} → w ≡ curveWorth s t → w .number ≤ 0 → natAbs (amount (w .worth)) ≤ 1000000
+worth-small s t {w} e l =
     let none : curveWorth s t .number ≡ 0 = omega (arith, ap (λ (x : CurveWorth). x .number) e) in
-    let most : natAbs (w .worth) ≤ 1000000 = rw e (worth-alone-small s t none) in
-    fits-abs _ (omega arith)
+    rw e (worth-alone-small s t none)

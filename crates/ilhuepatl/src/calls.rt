@@ -1,15 +1,21 @@
 // The public calls: the plan of a book as bytes in a lent output, and the calls that C links.
 ghost use mathlib.Core.Path.{_≡_};
+ghost use Prim.Native.Nat.{_≤_};
+ghost use lib.IntN.{natAbs};
+ghost use Rattle.curve.specs.Worth.{amount};
 ghost use Rattle.book.specs.Question.{foundIn};
 ghost use Rattle.book.specs.CurveWorth.{curveWorth};
 ghost use Rattle.planner.specs.Planned.{plannedOf};
 ghost use Rattle.planner.specs.First.{firstIn};
-ghost use Rattle.ilhuepatl.specs.Calls.{verdictOf, outcomeOf, word, recordWord, firstWord, worthWord};
+ghost use Rattle.ilhuepatl.specs.Calls.{verdictOf, outcomeOf, word, recordWord, firstWord, worthBits, worthWord};
 use crate::Verdict;
 use crate::answer::put_answer;
 use crate::number::bits_of;
 use crate::part::part_word;
 use cursor::field::ROOM;
+use curve::Worth;
+
+const NO_WORTH: u64 = 2147483648;
 
 fn verdict(number: u8, place: usize) -> Verdict
     ensures { λ r. ⌜ r ≡ verdictOf number place ⌝ }
@@ -75,7 +81,18 @@ pub extern "C" fn ilhuepatl_first(book: &[u8]) -> u64
     0
 }
 
-// The worth of a curve for C: a refusal as above, CUT, RANGE or TAIL; else the worth in the 32 bits of two's complement.
+// A worth in 32 bits of two's complement, and 2 ^ 31, which is no worth's, for none.
+fn worth_bits(worth: Worth) -> u64
+    requires { ⌜ natAbs (amount worth) ≤ 1_000_000 ⌝ }
+    ensures { λ r. ⌜ r ≡ worthBits worth ⌝ }
+{
+    match worth {
+        Worth::None => NO_WORTH,
+        Worth::Of(n) => bits_of(n as i32) as u64,
+    }
+}
+
+// The worth of a curve for C: a refusal as above, CUT, RANGE or TAIL; else the worth, or none.
 #[no_mangle]
 pub extern "C" fn ilhuepatl_worth(curve: &[u8], t: u32) -> u64
     ensures { λ r. ⌜ r ≡ worthWord (curveWorth (now (curve .entry)) t) ⌝ }
@@ -84,5 +101,6 @@ pub extern "C" fn ilhuepatl_worth(curve: &[u8], t: u32) -> u64
     if 0 < w.number {
         return word_of(w.number, w.place);
     }
-    bits_of(w.worth as i32) as u64
+    let worth = w.worth;
+    worth_bits(worth)
 }

@@ -1,9 +1,11 @@
 -- The bounds of a plan: rounds, parts, total and end.
 use Prim.Native.Nat.{ℕ, _+_, _*_, _≤_}
 use native.Mathlib.Omega.{arith}
+use mathlib.Core.Bool.{Bool}
 use mathlib.Core.List.{List}
 use lib.ListN.{length}
 use lib.IntN.{natAbs}
+use Rattle.curve.specs.Worth.{amount}
 use Rattle.job.specs.declared.Job.{Job}
 use Rattle.gus.specs.View.{Pay}
 use Rattle.gus.specs.Choice.{Way}
@@ -23,7 +25,7 @@ module _ {way : Way} {pay : Pay} {js : List Job} {t : ℕ} {plan : Plan} (s : So
   pub parts-few : length (plan .parts) ≤ 96
   parts-few = omega (arith, d .short, burden-most s)
 
-  pub total-within : (most : ℕ) → ((i moment : ℕ) → natAbs (pay i moment) ≤ most) → natAbs (plan .total) ≤ countLeft js * most
+  pub total-within : (most : ℕ) → ((b : Bool) (i moment : ℕ) → natAbs (amount (pay b i moment)) ≤ most) → natAbs (plan .total) ≤ countLeft js * most
   total-within most within = rw (d .total) (omega (arith, paid-within pay most within t s (d .replay)))
 
   pub end-within : Small js → plan .end ≤ t + 32 * (3 * 65535)

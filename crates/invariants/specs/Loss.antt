@@ -6,6 +6,8 @@ use mathlib.Core.List.{List}
 use lib.Dec.{eqb}
 use lib.IntN.{pos}
 use Rattle.laws.specs.Circle.{OnCircle}
+use Rattle.curve.specs.declared.Worth.the-variants.{Of}
+use Rattle.curve.specs.Worth.{amount}
 use Rattle.job.specs.declared.Job.{Job}
 use Rattle.job.specs.Times.{never}
 use Rattle.gus.specs.declared.Course.{Course}
@@ -19,7 +21,7 @@ use Rattle.invariants.specs.SameVictims.{AlikeForVictims, same-victims, 
 
 -- "worth at now + run time left, divided by run time left; for a job in rollback, 0"
 unfoldable pub lossByMode : View → ℕ → ℕ → Course
-lossByMode v t i = cond (v .rolling i) (record { time = 1; gain = pos 0 }) (lossOf v t i)
+lossByMode v t i = cond (v .rolling i) (record { time = 1; gain = pos 0; inside = true }) (lossOf v t i)
 
 -- the same jobs, seen so that their losses are these
 abbrev pub viewByMode : View → View
@@ -31,7 +33,7 @@ viewByMode v = record {
   run = λ i. cond (v .rolling i) 1 (v .run i);
   rollback = v .rollback;
   rolling = v .rolling;
-  worth = λ i t. cond (v .rolling i) (pos 0) (v .worth i t);
+  worth = λ b i t. cond (v .rolling i) (Of (pos 0)) (v .worth b i t);
 }
 
 module _ (v : View) (t : ℕ) where
@@ -39,7 +41,7 @@ module _ (v : View) (t : ℕ) where
   unfolding lossOf lossByMode
   loss-by-mode i = go (v .rolling i)
     where
-      go : (b : Bool) → record { time = cond b 1 (v .run i); gain = cond b (pos 0) (v .worth i (t + cond b 1 (v .run i))) } ≡ cond b (record { time = 1; gain = pos 0 }) (lossOf v t i)
+      go : (b : Bool) → record { time = cond b 1 (v .run i); gain = amount (cond b (Of (pos 0)) (v .worth false i (t + cond b 1 (v .run i)))); inside = true } ≡ cond b (record { time = 1; gain = pos 0; inside = true }) (lossOf v t i)
       go true = refl
       go false = refl
 

@@ -1,4 +1,4 @@
--- The best group: of the jobs left none has a denser one, and each before has a less dense one. Where it is not worth more than zero, none is.
+-- The best group: of the candidates none is denser, and each before it is less dense. Where it is not worth more than zero, none is.
 use Prim.Native.Nat.{ℕ, _<_, _≤_}
 use native.Mathlib.Omega.{arith}
 use mathlib.Core.Path.{_≡_, refl, sym, _∙_}
@@ -16,7 +16,7 @@ use Rattle.gus.specs.View.{Pay, viewOf}
 use Rattle.gus.specs.Course.{denser}
 use Rattle.gus.specs.Choice.{Way}
 use Rattle.gus.specs.Group.{groupOf}
-use Rattle.gus.specs.Round.{better, consider, bestOf, worthwhile}
+use Rattle.gus.specs.Round.{better, offered, consider, bestOf, worthwhile}
 use Rattle.invariants.specs.Sound.{Sound, Member, left-member, member-left}
 use Rattle.invariants.specs.Waiting.{Ready}
 use Rattle.invariants.specs.Fair.{Fair}
@@ -37,28 +37,37 @@ runs-some (next g e u r) = omega (arith, g .some)
 abbrev pub courseAt : Way → Pay → List Job → ℕ → ℕ → Course
 courseAt way pay js t i = groupOf way (viewOf pay js) t i .course
 
--- THE BEST is the winner by density of the jobs left
-pub picked : (way : Way) (pay : Pay) {js : List Job} (t : ℕ) → Sound js → Won denser (Member js) (courseAt way pay js t) 32 (bestOf way (viewOf pay js) t)
-unfolding bestOf consider better
-picked way pay {js} t s = won denser (Member js) (courseAt way pay js t) denser-order (consider way (viewOf pay js) t) each 32
+-- who may win: a job that is left and whose group has no finish outside its curve (R-7)
+pub record Candidate (way : Way) (pay : Pay) (js : List Job) (t i : ℕ) : Type 0 where
+  pub member : Member js i
+  pub inside : courseAt way pay js t i .inside ≡ true
+
+-- THE BEST is the winner by density of the candidates
+pub picked : (way : Way) (pay : Pay) {js : List Job} (t : ℕ) → Sound js → Won denser (Candidate way pay js t) (courseAt way pay js t) 32 (bestOf way (viewOf pay js) t)
+unfolding bestOf consider offered better
+picked way pay {js} t s = won denser (Candidate way pay js t) (courseAt way pay js t) denser-order (consider way (viewOf pay js) t) each 32
   where
-    each : (n : ℕ) (b : Best) → (Member js n × (consider way (viewOf pay js) t n b ≡ taken denser n (courseAt way pay js t n) b)) ⊎ ((Member js n → ⊥) × (consider way (viewOf pay js) t n b ≡ b))
-    each n b = go (isLeft (jobAt js n)) refl
+    each : (n : ℕ) (b : Best) → (Candidate way pay js t n × (consider way (viewOf pay js) t n b ≡ taken denser n (courseAt way pay js t n) b)) ⊎ ((Candidate way pay js t n → ⊥) × (consider way (viewOf pay js) t n b ≡ b))
+    each n b = go (isLeft (jobAt js n)) refl (courseAt way pay js t n .inside) refl
       where
-        go : (x : Bool) → isLeft (jobAt js n) ≡ x → (Member js n × ((elim x as (λ z. Best) [ true ↦ better n (courseAt way pay js t n) b | false ↦ b ]) ≡ taken denser n (courseAt way pay js t n) b)) ⊎ ((Member js n → ⊥) × ((elim x as (λ z. Best) [ true ↦ better n (courseAt way pay js t n) b | false ↦ b ]) ≡ b))
-        go true e = inl (left-member s n e, refl)
-        go false e = inr (λ m. false≢true (sym e ∙ member-left m), refl)
+        taking : Bool → Bool → Best
+        taking x y = elim x as (λ z. Best) [ true ↦ elim y as (λ z. Best) [ true ↦ better n (courseAt way pay js t n) b | false ↦ b ] | false ↦ b ]
+
+        go : (x : Bool) → isLeft (jobAt js n) ≡ x → (y : Bool) → courseAt way pay js t n .inside ≡ y → (Candidate way pay js t n × (taking x y ≡ taken denser n (courseAt way pay js t n) b)) ⊎ ((Candidate way pay js t n → ⊥) × (taking x y ≡ b))
+        go true e true q = inl (record { member = left-member s n e; inside = q }, refl)
+        go true e false q = inr (λ m. false≢true (sym q ∙ m .inside), refl)
+        go false e y q = inr (λ m. false≢true (sym e ∙ member-left (m .member)), refl)
 
 module _ (pay : Pay) {way : Way} {js : List Job} (t : ℕ) (f : Fair way) (y : Ready js) where
   -- a group takes time
   some-time : (i : ℕ) → Member js i → 0 < courseAt way pay js t i .time
   some-time i m = omega (arith, group-lasts pay t i f y m, runs-some (group-runs pay t i f y m))
 
-  pub groups-timed : Timed denser (Member js) (courseAt way pay js t)
-  groups-timed = record { some = some-time }
+  pub groups-timed : Timed denser (Candidate way pay js t) (courseAt way pay js t)
+  groups-timed = record { some = λ i m. some-time i (m .member) }
 
-  -- where the best is not worth more than zero, none is
-  pub none-worthwhile : {i : ℕ} → Member js i → Wins denser (Member js) (courseAt way pay js t) 32 i → worthwhile (courseAt way pay js t i) ≡ false → (k : ℕ) → Member js k → worthwhile (courseAt way pay js t k) ≡ false
+  -- where the best is not worth more than zero, no candidate is
+  pub none-worthwhile : {i : ℕ} → Candidate way pay js t i → Wins denser (Candidate way pay js t) (courseAt way pay js t) 32 i → worthwhile (courseAt way pay js t i) ≡ false → (k : ℕ) → Candidate way pay js t k → worthwhile (courseAt way pay js t k) ≡ false
   unfolding denser
   none-worthwhile {i} mi w q k m = go (worthwhile a) refl
     where
@@ -70,4 +79,4 @@ module _ (pay : Pay) {way : Way} {js : List Job} (t : ℕ) (f : Fair way) (y : R
 
       go : (x : Bool) → worthwhile a ≡ x → worthwhile a ≡ false
       go false e = e
-      go true e = absurd (false≢true (sym (w .unbeaten k (m .there) m) ∙ denser-some (a .gain) (a .time) (b .gain) (b .time) (some-time i mi) e q))
+      go true e = absurd (false≢true (sym (w .unbeaten k (m .member .there) m) ∙ denser-some (a .gain) (a .time) (b .gain) (b .time) (some-time i (mi .member)) e q))

@@ -1,12 +1,16 @@
 -- A REPLAY: every part of a row is proper where it starts. What it keeps, and what it pays.
 use Prim.Native.Nat.{ℕ, _+_}
 use native.Mathlib.Omega.{arith}
-use mathlib.Core.Path.{_≡_, refl}
-use mathlib.Core.Bool.{cond}
+use mathlib.Core.Path.{_≡_, refl, ap, _∙_}
+use mathlib.Core.Bool.{Bool, true, false, false≢true, _&&_, cond}
 use mathlib.Core.List.{List, [], _∷_, _++_}
 use lib.Dec.{eqb}
 use lib.IntN.{ℤ, pos, _+ℤ_, +ℤ-idl, +ℤ-assoc}
+use Rattle.curve.specs.declared.Worth.{Worth}
+use Rattle.curve.specs.declared.Worth.the-variants.{Of}
+use Rattle.curve.specs.Worth.{defined, amount}
 use Rattle.job.specs.declared.Job.{Job}
+use Rattle.job.specs.Job.{leftIn}
 use Rattle.gus.specs.declared.Part.{Part}
 use Rattle.gus.specs.State.{workedBy, after, afterAll}
 use Rattle.gus.specs.View.{Pay}
@@ -47,14 +51,20 @@ unfolding lasts
 lasts-append [] qs = omega arith
 lasts-append (p ∷ ps) qs = omega (arith, lasts-append ps qs)
 
--- "What the machine pays at normal finishes": a normal part after which its job has no run time left pays its worth at that moment
-unfoldable pub pays : Pay → List Job → Part → ℕ → ℤ
-pays pay js p moment = cond (p .rolling) (pos 0) (cond (eqb (workedBy js p .run) 0) (pay (p .job) moment) (pos 0))
+-- WHAT A PART EARNS that ends at a moment: one after which its job has nothing left in the part's mode is a finish, and earns what that is worth
+-- at that moment, or none; any other earns 0
+unfoldable pub earns : Pay → List Job → Part → ℕ → Worth
+earns pay js p moment = cond (eqb (leftIn (p .rolling) (workedBy js p)) 0) (pay (p .rolling) (p .job) moment) (Of (pos 0))
 
--- what a row of parts that starts at the moment t pays
+-- "What the machine pays": the sum over a row of parts that starts at the moment t
 unfoldable pub paid : Pay → List Job → ℕ → List Part → ℤ
 paid pay js t [] = pos 0
-paid pay js t (p ∷ ps) = pays pay js p (t + p .time) +ℤ paid pay (after js p) (t + p .time) ps
+paid pay js t (p ∷ ps) = amount (earns pay js p (t + p .time)) +ℤ paid pay (after js p) (t + p .time) ps
+
+-- whether "every finish" of it "that earns from a curve is inside it"
+unfoldable pub allInside : Pay → List Job → ℕ → List Part → Bool
+allInside pay js t [] = true
+allInside pay js t (p ∷ ps) = defined (earns pay js p (t + p .time)) && allInside pay (after js p) (t + p .time) ps
 
 pub paid-append : (pay : Pay) (js : List Job) (t : ℕ) (ps qs : List Part) → paid pay js t (ps ++ qs) ≡ paid pay js t ps +ℤ paid pay (afterAll js ps) (t + lasts ps) qs
 unfolding paid afterAll lasts
@@ -62,3 +72,23 @@ paid-append pay js t [] qs = let e : t + 0 ≡ t = omega arith in rw (e, +ℤ-id
 paid-append pay js t (p ∷ ps) qs =
     let e : t + (p .time + lasts ps) ≡ t + p .time + lasts ps = omega arith in
     rw (e, paid-append pay (after js p) (t + p .time) ps qs, +ℤ-assoc)
+
+-- of two that hold together each does
+pub both : (a b : Bool) → a && b ≡ true → (a ≡ true) × (b ≡ true)
+both true b e = (refl, e)
+both false b e = absurd (false≢true e)
+
+and-assoc : (a b c : Bool) → a && (b && c) ≡ (a && b) && c
+and-assoc true b c = refl
+and-assoc false b c = refl
+
+pub inside-append : (pay : Pay) (js : List Job) (t : ℕ) (ps qs : List Part) → allInside pay js t (ps ++ qs) ≡ allInside pay js t ps && allInside pay (afterAll js ps) (t + lasts ps) qs
+unfolding allInside afterAll lasts
+inside-append pay js t [] qs = let e : t ≡ t + 0 = omega arith in ap (λ (m : ℕ). allInside pay js m qs) e
+inside-append pay js t (p ∷ ps) qs =
+    let e : t + p .time + lasts ps ≡ t + (p .time + lasts ps) = omega arith in
+    let d : Bool = defined (earns pay js p (t + p .time)) in
+    let a : Bool = allInside pay (after js p) (t + p .time) ps in
+    ap (λ (x : Bool). d && x) (inside-append pay (after js p) (t + p .time) ps qs)
+    ∙ and-assoc d a (allInside pay (afterAll (after js p) ps) (t + p .time + lasts ps) qs)
+    ∙ ap (λ (m : ℕ). (d && a) && allInside pay (afterAll (after js p) ps) m qs) e

@@ -1,9 +1,11 @@
 -- FROM AN ACCEPTED STRING OF BYTES to what the planner relies on.
 use Prim.Native.Nat.{ℕ, _≤_}
 use mathlib.Core.Path.{_≡_}
+use mathlib.Core.Bool.{Bool}
 use mathlib.Core.List.{List}
 use lib.IntN.{natAbs}
 use lib.ListN.{length, getD}
+use Rattle.curve.specs.Worth.{amount}
 use Rattle.book.specs.declared.Book.{Book}
 use Rattle.book.specs.Format.{bookOf}
 use Rattle.accepted.specs.Good.{Good, accepted-good}
@@ -22,7 +24,7 @@ pub record Opened (b : Book) : Type 0 where
   pub now : b .now ≤ 2147483647
   pub sound : Sound (jobsFrom b)
   pub small : Small (jobsFrom b)
-  pub worth : (i t : ℕ) → natAbs (payFrom b i t) ≤ 1000000
+  pub worth : (rolling : Bool) (i t : ℕ) → natAbs (amount (payFrom b rolling i t)) ≤ 1000000
   pub holders-size : length (b .holders) ≡ 32
   pub holders : (r : ℕ) → getD (b .holders) r 255 ≡ holderOf (jobsFrom b) r
   pub planned : 32 ≤ knotOf (viewFrom b) (b .now) → Planned b

@@ -1,9 +1,8 @@
 -- What the functions of a round may rely on, a record for each kind of question.
 use mathlib.Core.Path.{_≡_}
-use mathlib.Core.Bool.{false}
+use mathlib.Core.Bool.{true, false}
 use mathlib.Core.List.{List}
-use Prim.Native.Nat.{ℕ, _*_, _<_, _≤_}
-use lib.IntN.{ℤ, natAbs}
+use Prim.Native.Nat.{ℕ, suc, _*_, _<_, _≤_}
 use lib.ListN.{length}
 use Rattle.gus.specs.declared.Course.{Course}
 use Rattle.gus.specs.Waits.{nobody}
@@ -29,12 +28,11 @@ pub record Spending (v : View) (t i n : ℕ) (c : Course) : Type 0 where
   pub step : Stepping v t i c
   pub short : n ≤ 65535
 
--- of job i whose part is done after so much time, with so much gained before it
-pub record Earning (v : View) (t i time : ℕ) (gain : ℤ) : Type 0 where
-  pub seeing : Seeing v t
+-- of job i whose part is done after so much time
+pub record Earning (t i time : ℕ) : Type 0 where
+  pub planned : Planned t
   pub job : i < 32
   pub time-small : time ≤ 32 * 65535
-  pub gain-small : natAbs gain ≤ 31 * 1000000
 
 -- of an array for the chain of job i
 pub record Tracing (i : ℕ) (members : List ℕ) : Type 0 where
@@ -59,10 +57,18 @@ pub record Along (v : View) (t : ℕ) (members : List ℕ) (k : ℕ) (c : Course
   pub place : k < 32
   pub small : Small k c
 
--- of the member at place k of it, which is not the last
+-- of the member at place k of it, which is not the last, where the course has no none among its credits
 pub record Undoing (v : View) (t : ℕ) (members : List ℕ) (k : ℕ) (c : Course) : Type 0 where
   pub along : Along v t members k c
   pub more : k < 31
+  pub inside : c .inside ≡ true
+
+-- of those after place k, by the time that has passed before them
+pub record Lasting (v : View) (t : ℕ) (members : List ℕ) (k time : ℕ) : Type 0 where
+  pub seeing : Seeing v t
+  pub members-below : Below 32 members
+  pub place : k < 32
+  pub time-small : time ≤ suc k * 65535
 
 -- from the n-th job on nobody is left and nobody waits
 pub record Beyond (n : ℕ) (v : View) : Type 0 where

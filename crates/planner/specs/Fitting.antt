@@ -1,6 +1,6 @@
 -- A stage from which a round may start, and that it stays so.
 use mathlib.Core.Path.{_≡_}
-use mathlib.Core.Bool.{true, false≢true}
+use mathlib.Core.Bool.{Bool, true, false≢true}
 use mathlib.Core.List.{List}
 use Prim.Native.Nat.{ℕ, zero, suc, _+_, _*_, _<_, _≤_}
 use native.Mathlib.Nat.{not-suc-le-zero, le-of-suc-le-suc}
@@ -8,6 +8,7 @@ use native.Mathlib.Omega.{arith}
 use lib.IntN.{natAbs}
 use lib.ListN.{length, getD}
 use Rattle.laws.specs.Signed.{abs-add}
+use Rattle.curve.specs.Worth.{amount}
 use Rattle.job.specs.declared.Job.{Job}
 use Rattle.gus.specs.declared.Part.{Part}
 use Rattle.gus.specs.declared.Course.{Course}
@@ -25,7 +26,7 @@ use Rattle.invariants.specs.Replay.{runs-replay, replay-ready}
 use Rattle.invariants.specs.Left.{countLeft, count-most, runs-count}
 use Rattle.invariants.specs.Burden.{burden, burden-most, runs-burden}
 use Rattle.invariants.specs.Winner.{Won, no-one, some-one}
-use Rattle.invariants.specs.Picked.{picked}
+use Rattle.invariants.specs.Picked.{Candidate, picked}
 use Rattle.invariants.specs.End.{Small}
 use Rattle.opening.specs.Modest.{Modest, modest}
 use Rattle.opening.specs.Small.{small-after-all}
@@ -38,7 +39,7 @@ use Rattle.planner.specs.Stage.{Stage, opening, joinedBy, roundAt}
 pub record Sane (pay : Pay) (s : State) : Type 0 where
   pub ready : Ready (s .jobs)
   pub small : Small (s .jobs)
-  pub worth : (i t : ℕ) → natAbs (pay i t) ≤ 1000000
+  pub worth : (b : Bool) (i t : ℕ) → natAbs (amount (pay b i t)) ≤ 1000000
 
 -- each round ends a job, adds at most 32 parts that lower the burden, 32 worths and 32 times
 pub record Fitting (pay : Pay) (s : Stage) : Type 0 where
@@ -62,9 +63,9 @@ fitting-begin y h = record {
 }
 
 -- a group worth more than nothing is that of a job left
-winner-left : {js : List Job} {course : ℕ → Course} (b : Best) → Won denser (Member js) course 32 b → worthwhile (b .course) ≡ true → Member js (b .last)
+winner-left : {way : Way} {pay : Pay} {js : List Job} {t : ℕ} {course : ℕ → Course} (b : Best) → Won denser (Candidate way pay js t) course 32 b → worthwhile (b .course) ≡ true → Member js (b .last)
 winner-left b (no-one h) w = absurd (false≢true w)
-winner-left b (some-one i l m e x) w = m
+winner-left b (some-one i l m e x) w = m .member
 
 -- every part of a run names a job
 pub numbered : {js₀ js : List Job} {ps : List Part} → Runs js₀ js ps → (k : ℕ) → k < length ps → getD ps k noPart .job < 32

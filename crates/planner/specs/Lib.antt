@@ -10,9 +10,11 @@ pub mod Offering
 pub mod Listing
 pub mod Settling
 pub mod Handing
+pub mod Lost
 pub mod Choosing
 pub mod Turn
 pub mod Reckoning
+pub mod Staying
 pub mod LaidOut
 pub mod Growing
 pub mod Parting

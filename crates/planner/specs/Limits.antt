@@ -15,7 +15,7 @@ use Rattle.gus.specs.View.{View}
 use Rattle.gus.specs.Course.{start, toFree, denser}
 use Rattle.gus.specs.Choice.{Way}
 use Rattle.gus.specs.Group.{grow, groupOf}
-use Rattle.gus.specs.Round.{better, consider, noBest, bestOf}
+use Rattle.gus.specs.Round.{better, offered, consider, noBest, bestOf}
 use Rattle.planner.specs.Bounds.{Modest, Small, small-more, small-start}
 use Rattle.planner.specs.Turn.{small-to-free, small-to-end}
 
@@ -73,13 +73,21 @@ module _ (way : Way) (v : View) (t : ℕ) where
         by true false = p
         by false y = one i h
 
+    keeps-offered : (i : ℕ) (b : Best) → i < 32 → P b → P (offered i (groupOf way v t i .course) b)
+    unfolding offered
+    keeps-offered i b h p = by (groupOf way v t i .course .inside)
+      where
+        by : (x : Bool) → P (elim x as (λ _. Best) [ true ↦ better i (groupOf way v t i .course) b | false ↦ b ])
+        by true = keeps-better i b h p
+        by false = p
+
     keeps : (n : ℕ) → n ≤ 32 → P (upto (consider way v t) n noBest)
     unfolding upto consider
     keeps zero h = none
     keeps (suc n) h = by (v .left n) (keeps n (omega arith))
       where
-        by : (x : Bool) → P (upto (consider way v t) n noBest) → P (elim x as (λ _. Best) [ true ↦ better n (groupOf way v t n .course) (upto (consider way v t) n noBest) | false ↦ upto (consider way v t) n noBest ])
-        by true p = keeps-better n (upto (consider way v t) n noBest) h p
+        by : (x : Bool) → P (upto (consider way v t) n noBest) → P (elim x as (λ _. Best) [ true ↦ offered n (groupOf way v t n .course) (upto (consider way v t) n noBest) | false ↦ upto (consider way v t) n noBest ])
+        by true p = keeps-offered n (upto (consider way v t) n noBest) h p
         by false p = p
 
     best-keeps : P (bestOf way v t)

@@ -1,6 +1,6 @@
 -- THE BRIDGE: where the sheet is the rows of the jobs, it gives the view of the jobs.
 use mathlib.Core.Path.{_≡_, sym, ap, _∙_}
-use mathlib.Core.Bool.{_&&_}
+use mathlib.Core.Bool.{Bool, true, false, _&&_}
 use mathlib.Core.Logic.{inl, inr}
 use mathlib.Core.List.{List}
 use Prim.Native.Nat.{ℕ, _+_, _*_, _<_, _≤_}
@@ -10,6 +10,7 @@ use lib.Dec.{ltb, eqb}
 use lib.IntN.{pos}
 use lib.ListN.{List·getD-eq-default}
 use Rattle.laws.specs.Search.{lt-or-le}
+use Rattle.curve.specs.declared.Worth.the-variants.{None, Of}
 use Rattle.curve.specs.Before.{worthBefore}
 use Rattle.job.specs.declared.Held.{Held}
 use Rattle.job.specs.declared.Job.{Job}
@@ -22,7 +23,7 @@ use Rattle.gus.specs.View.{Pay, viewOf}
 use Rattle.invariants.specs.Vacant.{vacant-past}
 use Rattle.invariants.specs.Sound.{Sound}
 use Rattle.invariants.specs.Waiting.{waits-none}
-use Rattle.planner.specs.Sheet.{cell, paid, seen}
+use Rattle.planner.specs.Sheet.{cell, worthSeen, paid, seen}
 use Rattle.planner.specs.Places.{Place}
 use Rattle.planner.specs.Rows.{asked, Idle, Rows}
 use Rattle.planner.specs.Unheld.{held-past}
@@ -50,8 +51,14 @@ module _ {js : List Job} (s : Sound js) where
     past-cell : (k z i : ℕ) → 32 ≤ i → cell k sheet z i ≡ z
     past-cell k z i l = List·getD-eq-default sheet z {n = 9 * i + k} (omega (arith, rows .size))
 
-    pub rows-view : ((i t : ℕ) → i < 32 → worthBefore bytes (places i .end) (places i .pieces) t ≡ pay i t) → ((i t : ℕ) → 32 ≤ i → pay i t ≡ pos 0) → seen bytes sheet ≡ viewOf pay js
-    rows-view worths nothing = λ d. record {
+    -- where a normal finish pays what its curve says in the bytes, and a rollback 0 at any time
+    pub record Paying : Type 0 where
+      pub curves : (i t : ℕ) → i < 32 → worthBefore bytes (places i .end) (places i .pieces) t ≡ pay false i t
+      pub none : (i t : ℕ) → 32 ≤ i → pay false i t ≡ None
+      pub back : (i t : ℕ) → pay true i t ≡ Of (pos 0)
+
+    pub rows-view : Paying → seen bytes sheet ≡ viewOf pay js
+    rows-view pays = λ d. record {
       left = λ i. ltb 0 (run i d) && ltb 0 (rollback i d);
       waits = λ i. everywhere (cell 4 sheet nobody) (waitsFor js) (rows .waits) (λ k l. past-cell 4 nobody k l ∙ sym (waits-none s k (asked-past k l))) i d;
       hold = λ i. everywhere (cell 2 sheet 0) (λ k. held k .hold) (rows .hold) (λ k l. past-cell 2 0 k l ∙ ap (λ (h : Held). h .hold) (held-none k l)) i d;
@@ -59,7 +66,7 @@ module _ {js : List Job} (s : Sound js) where
       run = λ i. run i d;
       rollback = λ i. rollback i d;
       rolling = λ i. everywhere (λ k. eqb (cell 5 sheet 0 k) 1) (λ k. jobAt js k .rolling) (rows .rolling) (λ k l. ap (λ (n : ℕ). eqb n 1) (past-cell 5 0 k l) ∙ ap (λ (j : Job). j .rolling) (past k l)) i d;
-      worth = λ i t. worth i t d;
+      worth = λ b i t. worth b i t d;
     }
       where
         held : ℕ → Held
@@ -74,8 +81,9 @@ module _ {js : List Job} (s : Sound js) where
         rollback : (i : ℕ) → cell 1 sheet 0 i ≡ jobAt js i .rollback
         rollback = everywhere (cell 1 sheet 0) (λ i. jobAt js i .rollback) (rows .rollback) (λ i l. past-cell 1 0 i l ∙ ap (λ (j : Job). j .rollback) (past i l))
 
-        worth : (i t : ℕ) → paid bytes sheet i t ≡ pay i t
-        worth i t = everywhere (λ k. paid bytes sheet k t) (λ k. pay k t)
-            (λ k l. rw (lt-ltb k 32 l, rows .end k l, rows .pieces k l) (worths k t l))
-            (λ k l. rw (le-ltb k 32 l) (sym (nothing k t l)))
+        worth : (b : Bool) (i t : ℕ) → paid bytes sheet b i t ≡ pay b i t
+        worth true i t = sym (pays .back i t)
+        worth false i t = everywhere (λ k. worthSeen bytes sheet k t) (λ k. pay false k t)
+            (λ k l. rw (lt-ltb k 32 l, rows .end k l, rows .pieces k l) (pays .curves k t l))
+            (λ k l. rw (le-ltb k 32 l) (sym (pays .none k t l)))
             i

@@ -1,10 +1,12 @@
 -- THE SHEET: what a round asks of the jobs, in one array with a row of nine numbers for each job.
-use mathlib.Core.Bool.{Bool, _&&_, cond}
+use mathlib.Core.Bool.{Bool, true, false, _&&_, cond}
 use mathlib.Core.List.{List}
 use Prim.Native.Nat.{ℕ, _+_, _*_}
 use lib.Dec.{ltb, eqb}
 use lib.IntN.{pos}
 use lib.ListN.{getD}
+use Rattle.curve.specs.declared.Worth.{Worth}
+use Rattle.curve.specs.declared.Worth.the-variants.{None, Of}
 use Rattle.curve.specs.Before.{worthBefore}
 use Rattle.gus.specs.Waits.{nobody}
 use Rattle.gus.specs.View.{Pay, View}
@@ -46,9 +48,13 @@ piecesIn sheet = cell 7 sheet 0
 abbrev pub asksIn : List ℕ → ℕ → ℕ
 asksIn sheet = cell 8 sheet nobody
 
--- what finishing a job is worth, by its curve in the lent bytes; past the last row nobody finishes
+-- what a normal finish of a job is worth, by its curve in the lent bytes; past the last row nobody finishes
+abbrev pub worthSeen : List ℕ → List ℕ → ℕ → ℕ → Worth
+worthSeen bytes sheet i t = cond (ltb i 32) (worthBefore bytes (endIn sheet i) (piecesIn sheet i) t) None
+
+-- by mode: rollback is worth 0 at any time
 abbrev pub paid : List ℕ → List ℕ → Pay
-paid bytes sheet i t = cond (ltb i 32) (worthBefore bytes (endIn sheet i) (piecesIn sheet i) t) (pos 0)
+paid bytes sheet rolling i t = elim rolling [ true ↦ Of (pos 0) | false ↦ worthSeen bytes sheet i t ]
 
 -- THE VIEW of the jobs that the lent book and sheet give
 abbrev pub seen : List ℕ → List ℕ → View

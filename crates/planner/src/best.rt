@@ -9,7 +9,11 @@ use gus::Course;
 pub(crate) fn no_best() -> Best
     ensures { λ r. ⌜ r ≡ noBest ⌝ }
 {
-    let none = Course { time: 0, gain: 0 };
+    let none = Course {
+        time: 0,
+        gain: 0,
+        inside: true,
+    };
     Best {
         some: false,
         last: 0,

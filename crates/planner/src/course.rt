@@ -1,11 +1,12 @@
 // Time and utility along a row of jobs (VI.3, VI.5).
 ghost use mathlib.Core.Path.{_≡_};
+ghost use mathlib.Core.Bool.{false};
 ghost use mathlib.Core.List.{[]};
 ghost use Prim.Native.Nat.{_+_, _*_, _≤_, _<_};
 ghost use lib.IntN.{natAbs, _+ℤ_};
-ghost use Rattle.gus.specs.Course.{earned, onward, denser};
-ghost use Rattle.planner.specs.Sheet.{paid, seen};
-ghost use Rattle.planner.specs.Asking.{Spending, Earning, Placing};
+ghost use Rattle.gus.specs.Course.{start, earned, onward, denser};
+ghost use Rattle.planner.specs.Sheet.{runIn, worthSeen, seen};
+ghost use Rattle.planner.specs.Asking.{Stepping, Spending, Earning, Placing};
 ghost use Rattle.planner.specs.Turn.{spanAt};
 use crate::sheet::end_of;
 use crate::sheet::hold_for;
@@ -14,6 +15,7 @@ use crate::sheet::rollback_of;
 use crate::sheet::run_of;
 use crate::sheet::undo_for;
 use crate::wide;
+use curve::Worth;
 use curve::question::worth_before;
 use gus::Course;
 
@@ -26,9 +28,9 @@ pub(crate) fn plus(gain: i32, worth: i64) -> i32
 }
 
 // What finishing a job at t is worth, by its curve in the book.
-pub(crate) fn worth_of<'a>(bytes: &'a [u8], sheet: &'a [u32; 288], job: usize, t: u32) -> i64
+pub(crate) fn worth_of<'a>(bytes: &'a [u8], sheet: &'a [u32; 288], job: usize, t: u32) -> Worth
     requires { ⌜ job < 32 ⌝ }
-    ensures { λ r. ⌜ r ≡ paid (now (bytes .entry)) (now (sheet .entry)) job t ⌝ }
+    ensures { λ r. ⌜ r ≡ worthSeen (now (bytes .entry)) (now (sheet .entry)) job t ⌝ }
 {
     let end = end_of(sheet, job);
     let pieces = pieces_of(sheet, job);
@@ -55,8 +57,8 @@ pub(crate) fn span_at<'a>(sheet: &'a [u32; 288], members: &'a [u8; 32], k: usize
     run_of(sheet, last)
 }
 
-// The gain after a job's part of n in a mode that is done once `time` has passed, in a group and in a choice alike: "A normal run that is all its
-// run time left earns its worth at that moment."
+// What a job's part of n in a mode earns that is done once `time` has passed, in a group and in a choice alike: "A normal run that is all its
+// run time left earns its worth at that moment", or none. Rollback earns 0 at any time.
 pub(crate) fn earn<'a>(
     bytes: &'a [u8],
     sheet: &'a [u32; 288],
@@ -65,19 +67,17 @@ pub(crate) fn earn<'a>(
     n: u32,
     t: u32,
     time: u32,
-    gain: i32,
-) -> i32
-    requires { ⌜ Earning (seen (now bytes) (now sheet)) t job time gain ⌝ }
-    ensures { λ r. ⌜ r ≡ gain +ℤ earned (seen (now (bytes .entry)) (now (sheet .entry))) job back n (t + time) ⌝ }
+) -> Worth
+    requires { ⌜ Earning t job time ⌝ }
+    ensures { λ r. ⌜ r ≡ earned (seen (now (bytes .entry)) (now (sheet .entry))) job back n (t + time) ⌝ }
 {
     if back {
-        return gain;
+        return Worth::Of(0);
     }
     if n == run_of(sheet, job) {
-        let worth = worth_of(bytes, sheet, job, t + time);
-        return plus(gain, worth);
+        return worth_of(bytes, sheet, job, t + time);
     }
-    gain
+    Worth::Of(0)
 }
 
 // That part after a course that began at t.
@@ -94,8 +94,36 @@ pub(crate) fn step<'a>(
     ensures { λ r. ⌜ r ≡ onward (seen (now (bytes .entry)) (now (sheet .entry))) t job back n c ⌝ }
 {
     let time = c.time + n;
-    let gain = earn(bytes, sheet, job, back, n, t, time, c.gain);
-    Course { time, gain }
+    let worth = earn(bytes, sheet, job, back, n, t, time);
+    match worth {
+        Worth::None => Course {
+            time,
+            gain: c.gain,
+            inside: false,
+        },
+        Worth::Of(w) => {
+            let gain = plus(c.gain, w);
+            Course {
+                time,
+                gain,
+                inside: c.inside,
+            }
+        }
+    }
+}
+
+// A job run to its end by itself, from t on.
+pub(crate) fn run_alone<'a>(bytes: &'a [u8], sheet: &'a [u32; 288], job: usize, t: u32) -> Course
+    requires { ⌜ Stepping (seen (now bytes) (now sheet)) t job start ⌝ }
+    ensures { λ r. ⌜ r ≡ onward (seen (now (bytes .entry)) (now (sheet .entry))) t job false (runIn (now (sheet .entry)) job) start ⌝ }
+{
+    let none = Course {
+        time: 0,
+        gain: 0,
+        inside: true,
+    };
+    let run = run_of(sheet, job);
+    step(bytes, sheet, job, false, run, t, none)
 }
 
 // Whether a gives more utility per millisecond than b.

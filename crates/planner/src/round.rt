@@ -28,7 +28,11 @@ fn no_group() -> GroupParts
         rolling: false,
         time: 0,
     };
-    let course = Course { time: 0, gain: 0 };
+    let course = Course {
+        time: 0,
+        gain: 0,
+        inside: true,
+    };
     GroupParts {
         parts: [empty; 32],
         count: 0,

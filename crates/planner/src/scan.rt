@@ -6,32 +6,36 @@ ghost use lib.Dec.{ltb};
 ghost use Rattle.gus.specs.Course.{start, toEnd};
 ghost use Rattle.gus.specs.Choice.{byDensity};
 ghost use Rattle.gus.specs.Group.{groupOf};
-ghost use Rattle.gus.specs.Round.{consider, bestOf};
+ghost use Rattle.gus.specs.Round.{offered, consider, bestOf};
 ghost use Rattle.planner.specs.Sheet.{runIn, rollbackIn, seen};
 ghost use Rattle.planner.specs.Asking.{Stepping, Scanning};
 use crate::best::no_best;
 use crate::best::pick;
 use crate::chain::follow;
 use crate::course::beats;
+use crate::course::run_alone;
 use crate::sheet::rollback_of;
 use crate::sheet::rolls;
 use crate::sheet::run_of;
 use crate::sheet::waits_of;
-use crate::victim::loss_of;
 use crate::walk::walk;
 use gus::Best;
 use gus::Course;
 
-// A job to its end by itself. By running it gives just what it would lose by being sent back.
+// A job to its end by itself.
 fn alone<'a>(bytes: &'a [u8], sheet: &'a [u32; 288], job: usize, t: u32) -> Course
     requires { ⌜ Stepping (seen (now bytes) (now sheet)) t job start ⌝ }
     ensures { λ r. ⌜ r ≡ toEnd (seen (now (bytes .entry)) (now (sheet .entry))) t job start ⌝ }
 {
     if rolls(sheet, job) {
         let time = rollback_of(sheet, job);
-        return Course { time, gain: 0 };
+        return Course {
+            time,
+            gain: 0,
+            inside: true,
+        };
     }
-    loss_of(bytes, sheet, job, t)
+    run_alone(bytes, sheet, job, t)
 }
 
 // The course of a job's group. A job that waits for nobody is its whole chain, and most wait for nobody.
@@ -58,6 +62,18 @@ fn is_left(sheet: &[u32; 288], job: usize) -> bool
     false
 }
 
+// A job's group against the best of those before it. "A group in which any job would finish at a moment with none is not a candidate" (02, R-7).
+fn offer_group(job: u8, c: Course, b: Best) -> Best
+    ensures { λ r. ⌜ r ≡ offered job c b ⌝ }
+{
+    if c.inside {
+        let best = b.course;
+        let wins = beats(c, best);
+        return pick(wins, job, c, b);
+    }
+    b
+}
+
 // A job, if it is left, against the best of those before it.
 fn consider<'a>(bytes: &'a [u8], sheet: &'a [u32; 288], job: usize, t: u32, b: Best) -> Best
     requires { ⌜ Stepping (seen (now bytes) (now sheet)) t job start ⌝ }
@@ -65,9 +81,7 @@ fn consider<'a>(bytes: &'a [u8], sheet: &'a [u32; 288], job: usize, t: u32, b: B
 {
     if is_left(sheet, job) {
         let c = score_of(bytes, sheet, job, t);
-        let best = b.course;
-        let wins = beats(c, best);
-        return pick(wins, job as u8, c, b);
+        return offer_group(job as u8, c, b);
     }
     b
 }

@@ -7,22 +7,24 @@ ghost use Rattle.planner.specs.Asking.{Stepping, Seeking, Offered};
 use crate::best::no_best;
 use crate::best::pick;
 use crate::course::beats;
-use crate::course::worth_of;
+use crate::course::run_alone;
 use crate::sheet::NEVER;
 use crate::sheet::rollback_of;
-use crate::sheet::run_of;
 use gus::Best;
 use gus::Course;
 
-// "worth at now + run time left, divided by run time left"; no member of a circle is in rollback (R-8).
+// "worth at now + run time left, divided by run time left"; no member of a circle is in rollback (R-8). "none counts as 0" (R-7):
+// a loss is always there.
 pub(crate) fn loss_of<'a>(bytes: &'a [u8], sheet: &'a [u32; 288], job: usize, t: u32) -> Course
     requires { ⌜ Stepping (seen (now bytes) (now sheet)) t job start ⌝ }
     ensures { λ r. ⌜ r ≡ lossOf (seen (now (bytes .entry)) (now (sheet .entry))) t job ⌝ }
 {
-    let time = run_of(sheet, job);
-    let worth = worth_of(bytes, sheet, job, t + time);
-    let gain = worth as i32;
-    Course { time, gain }
+    let c = run_alone(bytes, sheet, job, t);
+    Course {
+        time: c.time,
+        gain: c.gain,
+        inside: true,
+    }
 }
 
 fn offer<'a>(

@@ -24,7 +24,11 @@ pub(crate) fn walk<'a>(
     requires { ⌜ Walking byDensity (seen (now bytes) (now sheet)) t (now members) from (now modes) ⌝ }
     ensures { λ r. ⌜ (r ≡ grown byDensity (seen (now (bytes .entry)) (now (sheet .entry))) t (now (members .entry)) from start .course) × (now (modes .exit) ≡ modesOut (grown byDensity (seen (now (bytes .entry)) (now (sheet .entry))) t (now (members .entry)) from start)) ⌝ }
 {
-    let mut c = Course { time: 0, gain: 0 };
+    let mut c = Course {
+        time: 0,
+        gain: 0,
+        inside: true,
+    };
     let mut n: usize = 0;
     let mut k = from;
     while k < 32 {

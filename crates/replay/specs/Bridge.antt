@@ -2,38 +2,37 @@
 use mathlib.Core.Path.{_≡_, refl, sym, ap, _∙_}
 use mathlib.Core.Bool.{Bool, true, false, true≢false}
 use mathlib.Core.List.{List}
-use Prim.Native.Nat.{ℕ, _<_, _≤_}
+use Prim.Native.Nat.{ℕ, _+_, _<_, _≤_}
 use native.Mathlib.Decide.{decLt}
 use native.Mathlib.Omega.{arith}
 use lib.IntN.{pos, +ℤ-idl}
 use lib.ListN.{length, take}
 use Rattle.job.specs.declared.Request.{Request}
 use Rattle.job.specs.declared.Job.{Job}
-use Rattle.job.specs.Job.{holdOf, leftIn}
+use Rattle.job.specs.Job.{holdOf}
 use Rattle.gus.specs.declared.Part.{Part}
+use Rattle.gus.specs.declared.Course.{Course}
 use Rattle.gus.specs.State.{jobAt, afterAll}
 use Rattle.gus.specs.View.{Pay}
 use Rattle.gus.specs.Choice.{Way}
-use Rattle.gus.specs.Round.{Plan}
+use Rattle.gus.specs.Group.{groupOf}
+use Rattle.gus.specs.Round.{Plan, worthwhile}
 use Rattle.invariants.specs.Sound.{Sound, member-left, left-member, holder-left}
 use Rattle.invariants.specs.Proper.{Proper, sound-after}
 use Rattle.invariants.specs.Replay.{Replay, over, then, paid}
 use Rattle.invariants.specs.Left.{countLeft}
 use Rattle.invariants.specs.Burden.{burden-most}
 use Rattle.invariants.specs.Given.{grantAdds, grantsAdd as grantsReckoned, run-kept, rollback-kept, once-rollback}
+use Rattle.invariants.specs.Picked.{courseAt}
 use Rattle.invariants.specs.Rounds.{Replayed}
 use Rattle.replay.specs.Machine.{MachineJob, Machine, follow}
-use Rattle.replay.specs.View.{left, timeLeft}
+use Rattle.replay.specs.View.{left, viewOfMachine}
 use Rattle.replay.specs.Same.{Same}
-use Rattle.replay.specs.Agree.{Agrees, agrees-after, agrees-all, paid-all, clock-all}
+use Rattle.replay.specs.Agree.{Agrees, time-left, agrees-after, earnings-are, agrees-all, paid-all, unpaid-all, clock-all}
 use Rattle.replay.specs.Moments.{doneBy, done-all, adds, grantsAdd}
 use Rattle.replay.specs.Sentences.{partAt, Demand3}
-use Rattle.replay.specs.Parts.{sound-all, parts-before, part-proper, parts-done, rolling-stays, once-at}
+use Rattle.replay.specs.Parts.{sound-all, parts-before, part-proper, part-inside, parts-done, rolling-stays, once-at}
 use Rattle.replay.specs.Seen.{held-is, free-is, left-is, asked, view-seen}
-
-time-left : {m : MachineJob} {j : Job} → Same m j → (b : Bool) → timeLeft b m ≡ leftIn b j
-time-left s true = s .rollback
-time-left s false = s .run
 
 same-adds : {m : MachineJob} {j : Job} → Same m j → (b : Bool) → adds b m ≡ grantAdds b j
 same-adds s true = refl
@@ -44,7 +43,7 @@ unfolding grantsAdd grantsReckoned
 grants-are i a s over = refl
 grants-are i a s (then {p = p} g r) = rw (same-adds (a .same (p .job)) (p .rolling), grants-are i (agrees-after a s g) (sound-after s g) r)
 
-module _ {pay : Pay} {way : Way} {m : Machine} {js : List Job} {plan : Plan} (a : Agrees pay m js) (s : Sound js) (d : Replayed way pay js (m .clock) plan) (unpaid : m .paid ≡ pos 0) (few : countLeft js ≤ length (m .jobs)) where
+module _ {pay : Pay} {way : Way} {m : Machine} {js : List Job} {plan : Plan} (a : Agrees pay m js) (s : Sound js) (d : Replayed way pay js (m .clock) plan) (unpaid : (m .paid ≡ pos 0) × (m .unpaid ≡ 0)) (few : countLeft js ≤ length (m .jobs)) where
   -- the planner's jobs before part k, and t milliseconds after the start
   abbrev before : ℕ → List Job
   before k = afterAll js (take k (plan .parts))
@@ -73,6 +72,10 @@ module _ {pay : Pay} {way : Way} {m : Machine} {js : List Job} {plan : Plan} (a 
   clock-end : plan .end ≡ follow m (plan .parts) .clock
   clock-end = d .end ∙ sym (clock-all m (plan .parts))
 
+  -- a group seen at the end is the planner's
+  course-seen : (i : ℕ) → groupOf way (viewOfMachine (follow m (plan .parts))) (follow m (plan .parts) .clock) i .course ≡ courseAt way pay (afterAll js (plan .parts)) (plan .end) i
+  course-seen i = λ x. groupOf way (view-seen agrees-end (sound-all s (d .replay)) x) (sym clock-end x) i .course
+
   pub keeps-demand3 : Demand3 way m plan
   keeps-demand3 = record {
     starts-free = λ k i l e. rw (asked (agrees-before k) (sound-before k) (partAt (plan .parts) k .job)) (free-is (agrees-before k) (sound-before k) i (jobAt (before k) (partAt (plan .parts) k .job) .request .resource) (omega (arith, proper k l .free .at i)));
@@ -87,8 +90,13 @@ module _ {pay : Pay} {way : Way} {m : Machine} {js : List Job} {plan : Plan} (a 
     ];
     run-kept = λ t i. rw (agrees-by t .same i .run, a .same i .run) (run-kept i s (parts-done t (d .replay)));
     rollback-kept = λ t i h. rw (agrees-by t .same i .rollback, a .same i .rollback, grants-are i a s (parts-done t (d .replay))) (rollback-kept i s (parts-done t (d .replay)) (rw (agrees-by t .same i .rollback) at h) .1);
-    pays-total = paid-all a s (d .replay) ∙ rw unpaid (+ℤ-idl (paid pay js (m .clock) (plan .parts))) ∙ sym (d .total);
-    none-worthwhile = λ i e. rw (view-seen agrees-end (sound-all s (d .replay)), ← clock-end) (d .rest i (left-member (sound-all s (d .replay)) i (sym (left-is agrees-end (sound-all s (d .replay)) i) ∙ e)));
+    pays-total = paid-all a s (d .replay) ∙ rw (unpaid .0) (+ℤ-idl (paid pay js (m .clock) (plan .parts))) ∙ sym (d .total);
+    none-unpaid = unpaid-all a s (d .replay) (d .inside) ∙ unpaid .1;
+    finishes-inside = λ k l. rw (earnings-are (agrees-before k) (sound-before k) (proper k l) (follow m (take k (plan .parts)) .clock + partAt (plan .parts) k .time), clock-all m (take k (plan .parts))) (part-inside pay js (m .clock) k (plan .parts) (d .inside) l);
+    none-worthwhile = λ i e q. ap worthwhile (course-seen i) ∙ d .rest i (record {
+      member = left-member (sound-all s (d .replay)) i (sym (left-is agrees-end (sound-all s (d .replay)) i) ∙ e);
+      inside = sym (ap (λ (c : Course). c .inside) (course-seen i)) ∙ q;
+    });
     last-moment = ap (follow m) (done-all (plan .parts));
     clock-moved = clock-all m (plan .parts);
     end-is = clock-end;

@@ -48,7 +48,7 @@ module _ {b : Book} (g : Good b) (none : 32 ≤ knotOf (viewFrom b) (b .now)) wh
       (agrees-start g victims victim-below)
       (ready-settled (payFrom b) (b .now) (sound-from g) none .sound)
       (answer-replayed (payFrom b) (b .now) f (sound-from g) none)
-      refl
+      (refl, refl)
       (omega (arith, machine-size g victims, few-left g (settled (jobsFrom b) victims) (settled-falls (jobsFrom b) victims)))
 
 -- for any fair way of choosing a mode,

@@ -8,7 +8,9 @@ use lib.Dec.{eqb, ltb}
 use lib.IntN.{ℤ, pos, _+ℤ_}
 use lib.ListN.{getD, set, take}
 use Rattle.curve.specs.declared.Curve.{Curve}
-use Rattle.curve.specs.Worth.{worthAt}
+use Rattle.curve.specs.declared.Worth.{Worth}
+use Rattle.curve.specs.declared.Worth.the-variants.{Of}
+use Rattle.curve.specs.Worth.{worthAt, defined, amount}
 use Rattle.job.specs.declared.Request.{Request}
 use Rattle.book.specs.declared.Entry.{Entry}
 use Rattle.book.specs.declared.Record.{Record}
@@ -25,10 +27,11 @@ pub record MachineJob : Type 0 where
   pub holds : List Entry
   pub curve : Curve
 
--- what it has paid so far is its account, and decides nothing
+-- what it has paid so far, and how many finishes it could not pay since they were outside their curves, is its account, and decides nothing
 pub record Machine : Type 0 where
   pub clock : ℕ
   pub paid : ℤ
+  pub unpaid : ℕ
   pub jobs : List MachineJob
 
 -- "65,535, the never mark"
@@ -50,7 +53,7 @@ fromRecord x = record {
   curve = x .curve;
 }
 
--- what stands past the last job: no time, no request, nothing held, worth nothing
+-- what stands past the last job: no time, no request, nothing held, worth none at any time
 abbrev pub noMachineJob : MachineJob
 noMachineJob = fromRecord noRecord
 
@@ -67,7 +70,7 @@ withVictims (i ∷ is) js = withVictims is (set js i (asVictim (numbered js i)))
 
 -- and the clock is at the book's now
 abbrev pub machineFrom : Book → List ℕ → Machine
-machineFrom b victims = record { clock = b .now; paid = pos 0; jobs = withVictims victims (map fromRecord (take (b .jobs) (b .records))) }
+machineFrom b victims = record { clock = b .now; paid = pos 0; unpaid = 0; jobs = withVictims victims (map fromRecord (take (b .jobs) (b .records))) }
 
 abbrev pub jobOf : Machine → ℕ → MachineJob
 jobOf m i = numbered (m .jobs) i
@@ -121,20 +124,31 @@ abbrev pub given : Bool → ℕ → MachineJob → MachineJob
 given true n j = hasRolledBack n j
 given false n j = hasRun n (withRequest j)
 
--- A NORMAL FINISH pays: a normal part after which its job has no run time left, its worth at that moment
-unfoldable pub payment : Bool → MachineJob → ℕ → ℤ
-payment rolling j moment = cond rolling (pos 0) (cond (eqb (j .run) 0) (worthAt (j .curve) moment) (pos 0))
+-- what a job has left in a mode, true for rollback
+abbrev pub timeLeft : Bool → MachineJob → ℕ
+timeLeft true j = j .rollback
+timeLeft false j = j .run
 
--- ONE PART: its job is changed, its time passes, and a normal finish is paid. Nothing is refused: a part of a job that is not there
--- changes no job and pays nothing; what is not left is not taken; a finished job that runs is paid again; never counts down like any
--- other time; and a part without time still adds its job's request, or still puts it into rollback.
+-- what finishing it in that mode is worth at a moment: normally what its curve says, and none outside it; rollback 0 at any time
+abbrev pub finishWorth : Bool → MachineJob → ℕ → Worth
+finishWorth true j moment = Of (pos 0)
+finishWorth false j moment = worthAt (j .curve) moment
+
+-- A FINISH: a part after which its job has no time left in the part's mode. It earns what it is worth at that moment, or none; any other 0.
+unfoldable pub earnings : Bool → MachineJob → ℕ → Worth
+earnings rolling j moment = cond (eqb (timeLeft rolling j) 0) (finishWorth rolling j moment) (Of (pos 0))
+
+-- ONE PART: its job is changed, its time passes, and a finish is paid, or counted where it can't be. Nothing is refused: a part of a job
+-- that is not there changes no job and can't be paid; what is not left is not taken; a finished job that runs is paid again; never counts
+-- down like any other time; and a part without time still adds its job's request, or still puts it into rollback.
 abbrev pub partJob : Machine → Part → MachineJob
 partJob m p = given (p .rolling) (p .time) (jobOf m (p .job))
 
 abbrev pub step : Machine → Part → Machine
 step m p = record {
   clock = m .clock + p .time;
-  paid = m .paid +ℤ payment (p .rolling) (partJob m p) (m .clock + p .time);
+  paid = m .paid +ℤ amount (earnings (p .rolling) (partJob m p) (m .clock + p .time));
+  unpaid = m .unpaid + cond (defined (earnings (p .rolling) (partJob m p) (m .clock + p .time))) 0 1;
   jobs = set (m .jobs) (p .job) (partJob m p);
 }
 

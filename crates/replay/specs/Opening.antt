@@ -1,6 +1,7 @@
 -- The machine that starts from an accepted book agrees with the planner's jobs, the victims in rollback.
 use mathlib.Core.Path.{_≡_, refl, sym, ap, _∙_}
 use mathlib.Core.Logic.{_⊎_, inl, inr}
+use mathlib.Core.Bool.{Bool, true, false}
 use mathlib.Core.List.{List, [], _∷_, map}
 use Prim.Native.Nat.{ℕ, _<_, _≤_}
 use native.Mathlib.Omega.{arith}
@@ -18,7 +19,7 @@ use Rattle.gus.specs.Victims.{sentBack, settled}
 use Rattle.laws.specs.Among.{Among}
 use Rattle.opening.specs.Start.{jobsFrom, payFrom}
 use Rattle.opening.specs.Sound.{job-is, apart, sound-from}
-use Rattle.replay.specs.Machine.{MachineJob, Machine, fromRecord, numbered, asVictim, withVictims, machineFrom}
+use Rattle.replay.specs.Machine.{MachineJob, Machine, fromRecord, numbered, asVictim, withVictims, machineFrom, jobOf, finishWorth}
 use Rattle.replay.specs.Same.{Same}
 use Rattle.replay.specs.Agree.{Agrees, agrees-set}
 use Rattle.replay.specs.Records.{Orderly, same-record, no-record}
@@ -27,9 +28,9 @@ use Rattle.replay.specs.Records.{Orderly, same-record, no-record}
 same-victim : {m : MachineJob} {j : Job} → Same m j → Same (asVictim m) (sentBack j)
 same-victim s = record { rolling = refl; run = s .run; rollback = s .rollback; request = refl; hold = s .hold; undo = s .undo; distinct = s .distinct; some = s .some }
 
--- a machine with these jobs, that has paid nothing yet
+-- a machine with these jobs, whose account is empty
 abbrev fresh : ℕ → List MachineJob → Machine
-fresh now ms = record { clock = now; paid = pos 0; jobs = ms }
+fresh now ms = record { clock = now; paid = pos 0; unpaid = 0; jobs = ms }
 
 agrees-victims : {pay : Pay} (now : ℕ) (is : List ℕ) (ms : List MachineJob) (js : List Job) → ((i : ℕ) → Among i is → i < length ms) → length ms ≤ length js → Agrees pay (fresh now ms) js → Agrees pay (fresh now (withVictims is ms)) (settled js is)
 unfolding withVictims settled
@@ -39,7 +40,7 @@ agrees-victims now (i ∷ is) ms js below small a =
     agrees-victims now is (set ms i (asVictim (numbered ms i))) (set js i (sentBack (jobAt js i)))
     (λ k h. omega (arith, length-set ms i (asVictim (numbered ms i)), below k (inr h)))
     (omega (arith, length-set ms i (asVictim (numbered ms i)), length-set js i (sentBack (jobAt js i))))
-    (agrees-set i (asVictim (numbered ms i)) (sentBack (jobAt js i)) now (pos 0) l (omega arith) (same-victim (a .same i)) refl a)
+    (agrees-set i (asVictim (numbered ms i)) (sentBack (jobAt js i)) now (pos 0) 0 l (omega arith) (same-victim (a .same i)) refl a)
 
 victims-size : (is : List ℕ) (ms : List MachineJob) → length (withVictims is ms) ≡ length ms
 unfolding withVictims
@@ -74,8 +75,12 @@ module _ {b : Book} (g : Good b) where
   agrees-book : Agrees (payFrom b) (fresh (b .now) ms) (jobsFrom b)
   agrees-book = record {
     same = λ i. rw (numbered-is i, job-is b i) (same-record (orderly i));
-    worth = λ i t. rw (numbered-is i) refl;
+    worth = worth-book;
   }
+    where
+      worth-book : (rolling : Bool) (i t : ℕ) → finishWorth rolling (jobOf (fresh (b .now) ms) i) t ≡ payFrom b rolling i t
+      worth-book true i t = refl
+      worth-book false i t = rw (numbered-is i) refl
 
   pub machine-size : (is : List ℕ) → length (machineFrom b is .jobs) ≡ b .jobs
   machine-size is = victims-size is ms ∙ ms-size

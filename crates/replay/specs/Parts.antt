@@ -2,18 +2,20 @@
 use mathlib.Core.Path.{_≡_, refl}
 use mathlib.Core.Bool.{Bool, true, false}
 use mathlib.Core.List.{List, [], _∷_}
-use Prim.Native.Nat.{ℕ, zero, suc, _-_, _<_, _≤_}
+use Prim.Native.Nat.{ℕ, zero, suc, _+_, _-_, _<_, _≤_}
 use native.Mathlib.Nat.{not-suc-le-zero, le-of-suc-le-suc}
 use native.Mathlib.Omega.{arith}
 use lib.Dec.{leb, eqb}
 use lib.ListN.{length, take}
 use borrow.Author.Tests.{leb-false, eqb-false}
+use Rattle.curve.specs.Worth.{defined}
 use Rattle.job.specs.declared.Job.{Job}
 use Rattle.gus.specs.declared.Part.{Part}
 use Rattle.gus.specs.State.{jobAt, after, afterAll}
+use Rattle.gus.specs.View.{Pay}
 use Rattle.invariants.specs.Sound.{Sound}
 use Rattle.invariants.specs.Proper.{Proper, sound-after}
-use Rattle.invariants.specs.Replay.{Replay, over, then}
+use Rattle.invariants.specs.Replay.{Replay, over, then, lasts, earns, allInside, both}
 use Rattle.invariants.specs.Given.{OnlyRollback, OnceRollback, rolling-kept}
 use Rattle.replay.specs.Moments.{shortened, doneBy}
 use Rattle.replay.specs.Sentences.{partAt}
@@ -34,6 +36,16 @@ unfolding afterAll
 part-proper k over l = absurd (not-suc-le-zero l)
 part-proper zero (then g r) l = g
 part-proper (suc k) (then g r) l = part-proper k r (le-of-suc-le-suc l)
+
+pub part-inside : (pay : Pay) (js : List Job) (t k : ℕ) (ps : List Part) → allInside pay js t ps ≡ true → k < length ps → defined (earns pay (afterAll js (take k ps)) (partAt ps k) (t + lasts (take k ps) + partAt ps k .time)) ≡ true
+unfolding allInside afterAll lasts
+part-inside pay js t k [] i l = absurd (not-suc-le-zero l)
+part-inside pay js t zero (p ∷ ps) i l =
+    let e : t + 0 + p .time ≡ t + p .time = omega arith in
+    rw e (both (defined (earns pay js p (t + p .time))) (allInside pay (after js p) (t + p .time) ps) i .0)
+part-inside pay js t (suc k) (p ∷ ps) i l =
+    let e : t + (p .time + lasts (take k ps)) + partAt ps k .time ≡ t + p .time + lasts (take k ps) + partAt ps k .time = omega arith in
+    rw e (part-inside pay (after js p) (t + p .time) k ps (both (defined (earns pay js p (t + p .time))) (allInside pay (after js p) (t + p .time) ps) i .1) (le-of-suc-le-suc l))
 
 -- A MOMENT: a proper part that is broken off is proper
 shortened-proper : {js : List Job} {p : Part} (t : ℕ) → Proper js p → 1 ≤ t → t ≤ p .time → Proper js (shortened t p)

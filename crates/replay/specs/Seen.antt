@@ -97,5 +97,5 @@ module _ {pay : Pay} {m : Machine} {js : List Job} (a : Agrees pay m js) (s : So
     run = λ i. a .same i .run x;
     rollback = λ i. a .same i .rollback x;
     rolling = λ i. a .same i .rolling x;
-    worth = λ i t. a .worth i t x;
+    worth = λ b i t. a .worth b i t x;
   }

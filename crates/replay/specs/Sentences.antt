@@ -4,14 +4,16 @@ use mathlib.Core.Bool.{true, false}
 use mathlib.Core.List.{List}
 use Prim.Native.Nat.{ℕ, _+_, _<_, _≤_}
 use lib.ListN.{length, getD, take}
+use Rattle.curve.specs.Worth.{defined}
 use Rattle.gus.specs.declared.Part.{Part}
+use Rattle.gus.specs.declared.Course.{Course}
 use Rattle.gus.specs.Choice.{Way}
 use Rattle.gus.specs.Group.{groupOf}
 use Rattle.gus.specs.Round.{Plan, worthwhile}
 use Rattle.invariants.specs.Replay.{lasts}
 use Rattle.invariants.specs.Given.{runGiven, rollbackGiven}
-use Rattle.replay.specs.Machine.{MachineJob, Machine, never, jobOf, follow}
-use Rattle.replay.specs.View.{holds, left, timeLeft, viewOfMachine}
+use Rattle.replay.specs.Machine.{MachineJob, Machine, never, jobOf, timeLeft, earnings, partJob, follow}
+use Rattle.replay.specs.View.{holds, left, viewOfMachine}
 use Rattle.replay.specs.Moments.{doneBy, grantsAdd}
 
 abbrev pub partAt : List Part → ℕ → Part
@@ -35,9 +37,12 @@ module _ (way : Way) (m : Machine) (plan : Plan) where
   abbrev moment : ℕ → Machine
   moment t = follow m (done t)
 
-  -- the machine when all is done
+  -- the machine when all is done, and the course of job i's group then: it is a candidate where its finishes are inside their curves
   abbrev ended : Machine
   ended = follow m (plan .parts)
+
+  abbrev group : ℕ → Course
+  group i = groupOf way (viewOfMachine ended) (ended .clock) i .course
 
   pub record Demand3 : Type 0 where
     -- "No normal part starts while another job holds what its job asks for": nor while its own does
@@ -59,8 +64,11 @@ module _ (way : Way) (m : Machine) (plan : Plan) where
     pub rollback-kept : (t i : ℕ) → jobOf (moment t) i .rollback < never → rollbackGiven i (done t) + jobOf (moment t) i .rollback ≡ jobOf m i .rollback + grantsAdd i m (done t)
     -- "What the machine pays at normal finishes sums to the stated total"
     pub pays-total : ended .paid ≡ plan .total
-    -- "At the end no job left has a group worth more than zero"
-    pub none-worthwhile : (i : ℕ) → left (jobOf ended i) ≡ true → worthwhile (groupOf way (viewOfMachine ended) (ended .clock) i .course) ≡ false
+    -- "every finish in a plan that earns from a curve is inside it": by the machine's account none is left unpaid, so what each part earns is a number
+    pub none-unpaid : ended .unpaid ≡ 0
+    pub finishes-inside : (k : ℕ) → k < length (plan .parts) → defined (earnings (part k .rolling) (partJob (starting k) (part k)) (starting k .clock + part k .time)) ≡ true
+    -- "no job left has a candidate group worth more than zero"
+    pub none-worthwhile : (i : ℕ) → left (jobOf ended i) ≡ true → group i .inside ≡ true → worthwhile (group i) ≡ false
     -- and besides: the last of the moments is the end, where the clock has moved on by the parts' times to the stated end,
     pub last-moment : moment (lasts (plan .parts)) ≡ ended
     pub clock-moved : ended .clock ≡ m .clock + lasts (plan .parts)

@@ -1,13 +1,12 @@
 -- What the machine's own jobs show: who holds what, who is left, and what a round sees of them.
-use mathlib.Core.Bool.{Bool, true, false, cond, _&&_, _||_}
+use mathlib.Core.Bool.{Bool, false, cond, _&&_, _||_}
 use mathlib.Core.List.{List, [], _∷_}
 use Prim.Native.Nat.{ℕ, suc}
 use lib.Dec.{eqb, ltb}
-use Rattle.curve.specs.Worth.{worthAt}
 use Rattle.book.specs.declared.Entry.{Entry}
 use Rattle.book.specs.Format.{noEntry}
 use Rattle.gus.specs.View.{View}
-use Rattle.replay.specs.Machine.{MachineJob, Machine, jobOf}
+use Rattle.replay.specs.Machine.{MachineJob, Machine, jobOf, finishWorth}
 
 -- a list of holds has one of r
 unfoldable pub lists : List Entry → ℕ → Bool
@@ -21,11 +20,6 @@ holds m i r = lists (jobOf m i .holds) r
 -- A JOB IS LEFT while it has time in both modes; "a job at zero is removed"
 abbrev pub left : MachineJob → Bool
 left j = ltb 0 (j .run) && ltb 0 (j .rollback)
-
--- what a job has left in a mode, true for rollback
-abbrev pub timeLeft : Bool → MachineJob → ℕ
-timeLeft true j = j .rollback
-timeLeft false j = j .run
 
 -- the hold of r in a list, and one of no time where there is none
 unfoldable pub holdOn : List Entry → ℕ → Entry
@@ -55,5 +49,5 @@ viewOfMachine m = record {
   run = λ i. jobOf m i .run;
   rollback = λ i. jobOf m i .rollback;
   rolling = λ i. jobOf m i .rolling;
-  worth = λ i t. worthAt (jobOf m i .curve) t;
+  worth = λ b i t. finishWorth b (jobOf m i) t;
 }

@@ -1,7 +1,5 @@
 -- `book::worth::worth_of_curve` meets its contract.
 use mathlib.Core.Path.{_≡_, ap, _∙_}
-use mir.Syntax.{w64}
-use mir.Facts.{toZ-ofZ}
 use borrow.Author.Tests.{lt-ltb, le-ltb}
 use borrow.Author.Needs.{needs}
 use Rattle.book.specs.Format.{tailRead}
@@ -28,7 +26,7 @@ worth-at-requires c κs = search needs
 
 returns-2 : tie.Need-returns-2
 unfolding curveWorth
-returns-2 c = rw (← last (c .before .before .before), le-ltb _ _ (c .before .if1 .left), toZ-ofZ {w = w64} {z = c .worth-at .result} (search needs), c .worth-at .ensures)
+returns-2 c = rw (← last (c .before .before .before), le-ltb _ _ (c .before .if1 .left), c .worth-at .ensures)
 
 pub worth-of-curve-spec : {M : Type 1} → statement M
 worth-of-curve-spec =

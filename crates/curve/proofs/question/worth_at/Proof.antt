@@ -3,8 +3,6 @@ use mathlib.Core.Path.{_≡_, sym, _∙_}
 use Prim.Native.Nat.{_+_, _*_, _≤_}
 use native.Mathlib.Omega.{arith}
 use lib.ListN.{length}
-use mir.Syntax.{w64}
-use mir.Facts.{toZ-ofZ}
 use borrow.Author.Needs.{needs}
 use Rattle.cursor.specs.Field.{valueAt}
 use Rattle.curve.specs.Layout.{piecePlace, curveAt, curveEnd}
@@ -72,8 +70,7 @@ returns-5 : tie.Need-returns-5
 returns-5 c =
     let a = c .before .before .before .before .before .before .before .before .args in
     let x = c .before .before .before in
-    toZ-ofZ {w = w64} {z = c .worth-in .result} (search needs)
-    ∙ c .worth-in .ensures
+    c .worth-in .ensures
     ∙ sym (stands-until (a .s .now) (a .place) (few x) (whole x) (a .t) (omega (arith, termination (c .before .before))))
 
 pub worth-at-spec : {M : Type 1} → statement M

@@ -1,9 +1,10 @@
 -- `curve::question::worth_back` meets its contract: the loop walks the pieces from the termination back.
-use mathlib.Core.Path.{_∙_}
+use mathlib.Core.Path.{ap, _∙_}
 use native.Mathlib.Omega.{arith}
 use mir.Syntax.{w64}
 use mir.Facts.{toZ-ofZ}
 use borrow.Author.Needs.{needs}
+use Rattle.curve.specs.declared.Worth.the-variants.{Of}
 use Rattle.curve.specs.Before.{Backing, backing-begin, backing-short, backing-served, backing-next, backing-none}
 use Rattle.curve.proofs.question.worth_back.Statement.{statement}
 use Rattle.curve.proofs.question.worth_back.Tie as tie
@@ -33,8 +34,7 @@ returns-2 : tie.Need-returns-2 Inv-loop μ-loop
 returns-2 c =
     let x = c .before .before .before in
     let l = x .before .before .before in
-    toZ-ofZ {w = w64} {z = c .line-at .result} (search needs)
-    ∙ c .line-at .ensures
+    ap Of (toZ-ofZ {w = w64} {z = c .line-at .result} (search needs) ∙ c .line-at .ensures)
     ∙ backing-served (l .loop .inv) (x .before .before .loop-test .taken) (x .before .if1 .left) (x .piece-at .ensures) (c .before .if2 .taken)
 
 loop-less : tie.Need-loop-less Inv-loop μ-loop

@@ -1,8 +1,6 @@
 -- `curve::question::worth_before` meets its contract.
 use mathlib.Core.Path.{sym, _∙_}
 use native.Mathlib.Omega.{arith}
-use mir.Syntax.{w64}
-use mir.Facts.{toZ-ofZ}
 use Rattle.curve.specs.Before.{before-cut, before-after, before-until}
 use borrow.Author.Needs.{needs}
 use Rattle.curve.proofs.question.worth_before.Statement.{statement}
@@ -28,8 +26,7 @@ worth-back-requires c κs = search needs
 
 returns-4 : tie.Need-returns-4
 returns-4 c =
-    toZ-ofZ {w = w64} {z = c .worth-back .result} (search needs)
-    ∙ c .worth-back .ensures
+    c .worth-back .ensures
     ∙ sym (before-until _ _ _ _ (omega arith) (omega (arith, c .before .before .field-there .ensures .0)))
 
 pub worth-before-spec : {M : Type 1} → statement M

@@ -8,6 +8,7 @@ use mir.Facts.{toZ-ofZ}
 use borrow.Author.Needs.{needs}
 use Rattle.cursor.specs.Field.{valueAt}
 use Rattle.curve.specs.declared.Piece.{Piece}
+use Rattle.curve.specs.declared.Worth.the-variants.{Of}
 use Rattle.curve.specs.Worth.{noPiece, lineAt}
 use Rattle.curve.specs.Walk.{walk-served}
 use Rattle.curve.specs.Layout.{pieceAt, piecePlace, curveAt}
@@ -52,9 +53,7 @@ returns c =
     let a = l .before .before .args in
     let b = l .loop .inv in
     let p = here (c .before .before .before) in
-    toZ-ofZ {w = w64} {z = c .line-at .result} (search needs)
-    ∙ c .line-at .ensures
-    ∙ ap (λ (x : Piece). lineAt x (a .t)) p
+    ap Of (toZ-ofZ {w = w64} {z = c .line-at .result} (search needs) ∙ c .line-at .ensures ∙ ap (λ (x : Piece). lineAt x (a .t)) p)
     ∙ walk-served (b .walking) (back-some b (c .before .before .before .before .loop-test .taken)) (subst (λ (x : Piece). x .start ≤ a .t) p (c .before .if1 .taken))
 
 loop-less : tie.Need-loop-less Inv-loop μ-loop

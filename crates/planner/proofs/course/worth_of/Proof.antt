@@ -1,7 +1,4 @@
 -- `planner::course::worth_of` meets its contract.
-use mathlib.Core.Path.{_∙_}
-use mir.Syntax.{w64}
-use mir.Facts.{toZ-ofZ}
 use borrow.Author.Tests.{lt-ltb}
 use borrow.Author.Needs.{needs}
 use Rattle.planner.proofs.course.worth_of.Statement.{statement}
@@ -19,7 +16,7 @@ worth-before-requires c κs = search needs
 returns : tie.Need-returns
 returns c =
     rw (lt-ltb (c .before .before .before .before .args .job) 32 (c .before .before .before .before .pre), ← c .before .before .end-of .ensures, ← c .before .pieces-of .ensures)
-    (toZ-ofZ {w = w64} {z = c .worth-before .result} (search needs) ∙ c .worth-before .ensures)
+    (c .worth-before .ensures)
 
 pub worth-of-spec : {M : Type 1} → statement M
 worth-of-spec =
