@@ -84,7 +84,7 @@ fn victim(now: i64, jobs: &[Job], circle: &[usize]) -> Option<usize> {
 }
 
 /// LossPUD of V.1 as a fraction: worth at now + run time left, divided by run
-/// time left; for a job in rollback 0.
+/// time left; for a job in rollback 0. "None counts as 0" (02, R-7).
 ///
 /// R-8 took this last clause out of the proved planner, since no member of a
 /// circle is in rollback: MODE refuses a job in rollback with a request, and a
@@ -94,7 +94,7 @@ fn loss(now: i64, job: &Job) -> (i64, i64) {
     if job.in_rollback {
         (0, 1)
     } else {
-        (worth(&job.curve, now + job.run), job.run)
+        (worth(&job.curve, now + job.run).unwrap_or(0), job.run)
     }
 }
 

@@ -34,7 +34,11 @@ pub fn check_demand3(bytes: &[u8], plan: &Plan) -> Result<(), String> {
         let told = |fault: String| format!("part {at} ({part:?}): {fault}");
         before_part(&machine, part).map_err(told)?;
         note(&mut given[part.job], &machine.stations[part.job], part);
-        machine.follow(part);
+        // "Every finish in a plan that earns from a curve is inside it" (02, R-7).
+        hold_true(machine.follow(part).is_some(), || {
+            format!("it finishes at {}, outside its curve", machine.clock)
+        })
+        .map_err(told)?;
         standing(&machine, book.resources).map_err(told)?;
     }
     times_add_up(&book.jobs, &machine, &given)?;
@@ -150,18 +154,21 @@ fn times_add_up(jobs: &[Job], machine: &Machine, given: &[Given]) -> Result<(), 
     Ok(())
 }
 
-/// "At the end no job left has a group worth more than zero."
+/// "No job left has a candidate group worth more than zero" (02, R-7).
 fn nothing_left_to_gain(machine: &Machine) -> Result<(), String> {
     let jobs = machine.jobs();
     for last in 0..jobs.len() {
         if machine.stations[last].finished() {
             continue;
         }
-        match rounds::group(&jobs, machine.clock, last) {
-            None => return Err(format!("at the end job {last} waits in a circle")),
-            Some(group) => hold_true(group.utility <= 0, || {
-                format!("at the end job {last} has a group worth {}", group.utility)
-            })?,
+        let Some(group) = rounds::group(&jobs, machine.clock, last) else {
+            return Err(format!("at the end job {last} waits in a circle"));
+        };
+        // A group without a utility is no candidate, whatever else it would earn.
+        if let Some(utility) = group.gain.utility {
+            hold_true(utility <= 0, || {
+                format!("at the end job {last} has a candidate group worth {utility}")
+            })?;
         }
     }
     Ok(())

@@ -42,6 +42,7 @@ fn draft(seed: u64) -> Draft {
     match dice.between(0, 49) {
         0 => return special::late(dice),
         1 => return special::turned(dice),
+        2..=3 => return special::narrow(dice),
         _ => {}
     }
     use Scale::*;

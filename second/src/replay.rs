@@ -62,20 +62,27 @@ impl Machine {
 
     /// Follows one part and checks nothing. Time passes for any part; a part
     /// of a job that is not there does nothing else.
-    pub fn follow(&mut self, part: &Part) {
+    ///
+    /// It gives what the part earned: the worth at a normal finish, or none where
+    /// that lies outside the curve, for which nothing is paid. A part that
+    /// finishes nothing earns 0, and so does a rollback, at any time (02, R-7).
+    pub fn follow(&mut self, part: &Part) -> Option<i64> {
         self.clock += part.time;
         let Some(station) = self.stations.get_mut(part.job) else {
-            return;
+            return Some(0);
         };
         if part.rollback {
             station.roll_back(part.time);
-        } else {
-            let had_run_left = station.run_left > 0;
-            station.run(part.time);
-            if had_run_left && station.run_left == 0 {
-                self.paid += worth(&station.curve, self.clock);
-            }
+            return Some(0);
         }
+        let had_run_left = station.run_left > 0;
+        station.run(part.time);
+        if !had_run_left || station.run_left > 0 {
+            return Some(0);
+        }
+        let earned = worth(&station.curve, self.clock);
+        self.paid += earned.unwrap_or(0);
+        earned
     }
 
     /// The jobs that hold a resource, one entry for each hold.

@@ -3,17 +3,18 @@
 use crate::book::Curve;
 use std::cmp::Ordering;
 
-/// "In the last piece that starts at or before t, value + slope x (t - start);
-/// 0 before the first start and after termination. At termination itself the
-/// curve still holds."
-pub fn worth(curve: &Curve, t: i64) -> i64 {
+/// "In the last piece that starts at or before t, value + slope x (t - start)."
+/// Before the first start and after termination 000 calls a curve undefined,
+/// and 02 has it answer none there (R-7). "At termination itself the curve still
+/// holds", and so it does at the first start.
+pub fn worth(curve: &Curve, t: i64) -> Option<i64> {
     if t > curve.termination {
-        return 0;
+        return None;
     }
-    let mut result = 0;
+    let mut result = None;
     for piece in &curve.pieces {
         if piece.start <= t {
-            result = piece.value + piece.slope * (t - piece.start);
+            result = Some(piece.value + piece.slope * (t - piece.start));
         }
     }
     result

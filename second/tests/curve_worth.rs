@@ -21,7 +21,14 @@ fn accepted(bytes: &[u8]) {
 
 fn worths(bytes: &[u8], expected: &[(u32, i64)]) {
     for &(t, worth) in expected {
-        assert_eq!(curve_worth(bytes, t), Ok(worth), "at {t}");
+        assert_eq!(curve_worth(bytes, t), Ok(Some(worth)), "at {t}");
+    }
+}
+
+/// 02, R-7: before the first start and after the termination.
+fn none_at(bytes: &[u8], moments: &[u32]) {
+    for &t in moments {
+        assert_eq!(curve_worth(bytes, t), Ok(None), "at {t}");
     }
 }
 
@@ -33,24 +40,27 @@ fn three() -> Vec<u8> {
 #[test]
 fn bytes_written_by_hand() {
     let bytes = hex("01 | 00 00 00 0A FF FF FF FE 00 03 | 00 00 00 0C");
-    worths(&bytes, &[(9, 0), (10, -2), (11, 1), (12, 4), (13, 0)]);
+    worths(&bytes, &[(10, -2), (11, 1), (12, 4)]);
+    none_at(&bytes, &[9, 13]);
 }
 
 #[test]
 fn before_in_and_after_the_pieces() {
     let inside = [(10, 5), (11, 7), (19, 23), (20, -7), (24, -11), (25, 100)];
     worths(&three(), &inside);
-    worths(&three(), &[(0, 0), (9, 0)]);
-    worths(&three(), &[(30, 100), (31, 0), (LAST_TIME, 0)]);
-    worths(&three(), &[(LAST_TIME + 1, 0), (u32::MAX, 0)]);
+    worths(&three(), &[(29, 100), (30, 100)]);
+    none_at(&three(), &[0, 9]);
+    none_at(&three(), &[31, LAST_TIME, LAST_TIME + 1, u32::MAX]);
 }
 
 #[test]
 fn a_curve_of_one_moment() {
-    worths(&curve(&[(0, -9, 5)], 0), &[(0, -9), (1, 0)]);
+    let first = curve(&[(0, -9, 5)], 0);
+    worths(&first, &[(0, -9)]);
+    none_at(&first, &[1]);
     let last = curve(&[(LAST_TIME, 9, 5)], LAST_TIME);
-    worths(&last, &[(LAST_TIME - 1, 0), (LAST_TIME, 9)]);
-    worths(&last, &[(LAST_TIME + 1, 0)]);
+    worths(&last, &[(LAST_TIME, 9)]);
+    none_at(&last, &[LAST_TIME - 1, LAST_TIME + 1]);
 }
 
 #[test]
@@ -59,7 +69,15 @@ fn the_greatest_and_the_least_worth() {
     worths(&high, &[(0, -1_000_000), (1_000, 0), (2_000, 1_000_000)]);
     let low = curve(&[(7, 1_000_000, -1_000)], 2_007);
     worths(&low, &[(7, 1_000_000), (2_006, -999_000)]);
-    worths(&low, &[(2_007, -1_000_000), (2_008, 0)]);
+    worths(&low, &[(2_007, -1_000_000)]);
+    none_at(&low, &[6, 2_008]);
+}
+
+#[test]
+fn a_worth_of_zero_is_not_none() {
+    let flat = curve(&[(10, 0, 0)], 20);
+    worths(&flat, &[(10, 0), (15, 0), (20, 0)]);
+    none_at(&flat, &[9, 21]);
 }
 
 #[test]
@@ -68,9 +86,9 @@ fn eight_pieces_each_in_its_place() {
     let bytes = curve(&pieces, 23);
     for t in 0..24 {
         let expected = i64::from(t / 3) - 4 + i64::from(t % 3);
-        assert_eq!(curve_worth(&bytes, t), Ok(expected), "at {t}");
+        assert_eq!(curve_worth(&bytes, t), Ok(Some(expected)), "at {t}");
     }
-    worths(&bytes, &[(24, 0)]);
+    none_at(&bytes, &[24]);
 }
 
 #[test]
@@ -85,10 +103,8 @@ fn a_curve_where_it_stands_in_a_book() {
     // Its curve stands after 11 bytes and one hold of 5.
     let part = &bytes[record.start + 16..record.end];
     assert_eq!(part, curve(&pieces, 12));
-    worths(
-        part,
-        &[(2, 0), (3, -5), (7, -5), (8, 60), (12, 52), (13, 0)],
-    );
+    worths(part, &[(3, -5), (7, -5), (8, 60), (12, 52)]);
+    none_at(part, &[2, 13]);
     let rest = &bytes[record.start + 16..];
     refused(rest, TAIL, part.len());
 }

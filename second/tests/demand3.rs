@@ -28,13 +28,90 @@ fn shared() -> BookOf {
 
 #[test]
 fn an_empty_or_shortened_plan() {
-    fault(&two(), stated(&[], "", 0, 0, 0), "has a group worth");
-    fault(&two(), stated(&[], "1 N 4", 40, 4, 1), "has a group worth");
+    fault(
+        &two(),
+        stated(&[], "", 0, 0, 0),
+        "has a candidate group worth",
+    );
+    fault(
+        &two(),
+        stated(&[], "1 N 4", 40, 4, 1),
+        "has a candidate group worth",
+    );
     fault(
         &shared(),
         stated(&[], "0 A 2", 0, 2, 1),
-        "has a group worth",
+        "has a candidate group worth",
     );
+}
+
+/// 02, R-7: job 1 waits for all that job 0 has to run, and job 0 can't be rolled
+/// back. Its curve ends at 10, when it would finish, or before.
+fn behind(termination: u32) -> BookOf {
+    book(1)
+        .job(
+            job(10, 0)
+                .never()
+                .holds(0, 10, NEVER)
+                .terminates(termination),
+        )
+        .job(job(5, 22).requests(0, 5, 1))
+}
+
+#[test]
+fn a_finish_outside_its_curve() {
+    let planned = || stated(&[], "0 N 10, 1 N 5", 22, 15, 1);
+    let passes = |book: &BookOf| check_demand3(&book.bytes(), &planned());
+    assert_eq!(passes(&behind(10)), Ok(()));
+    fault(&behind(9), planned(), "part 0 ");
+    fault(&behind(9), planned(), "finishes at 10, outside its curve");
+
+    // The last part, one ms after its termination and one before its start.
+    let last = |start: u32, termination: u32| {
+        let waits = job(5, 0).requests(0, 5, 1);
+        book(1)
+            .job(job(10, 0).never().holds(0, 10, NEVER))
+            .job(waits.curve(&[(start, 22, 0)], termination))
+    };
+    assert_eq!(passes(&last(15, 15)), Ok(()));
+    for (start, termination) in [(0, 14), (14, 14), (16, 16), (16, 1_000)] {
+        let outside = last(start, termination);
+        fault(&outside, planned(), "part 1 ");
+        fault(&outside, planned(), "finishes at 15, outside its curve");
+    }
+    // Whatever total is stated: it is not for the total that it is refused.
+    fault(
+        &last(16, 16),
+        stated(&[], "0 N 10, 1 N 5", 0, 15, 1),
+        "outside its curve",
+    );
+}
+
+#[test]
+fn what_finishes_nothing_and_what_rolls_back_is_not_outside() {
+    // Job 0's curve is over at once. By 4 ms it frees r0 and goes on later.
+    let frees = book(1)
+        .job(job(10, 9).rollback(3).holds(0, 4, 3).terminates(0))
+        .job(job(5, 22).requests(0, 5, 1));
+    for text in ["0 N 4, 1 N 5", "0 A 3, 1 N 5"] {
+        let planned = parts(text);
+        let end = planned.iter().map(|part| part.time).sum();
+        let plan = stated(&[], text, 22, end, 1);
+        assert_eq!(check_demand3(&frees.bytes(), &plan), Ok(()));
+    }
+}
+
+#[test]
+fn a_candidate_that_was_left() {
+    // At 10 the group of job 1 is a candidate, before it is none.
+    let ended = || stated(&[], "", 0, 0, 0);
+    fault(&behind(10), ended(), "job 1 has a candidate group worth 22");
+    assert_eq!(check_demand3(&behind(9).bytes(), &ended()), Ok(()));
+    // Only beside one that is none.
+    let beside = behind(9).job(job(5, 1));
+    fault(&beside, ended(), "job 2 has a candidate group worth 1");
+    let planned = stated(&[], "2 N 5", 1, 5, 1);
+    assert_eq!(check_demand3(&beside.bytes(), &planned), Ok(()));
 }
 
 #[test]
@@ -174,6 +251,24 @@ fn the_machine_asks_no_one() {
     // A job that isn't there only takes time.
     machine.follow(&parts("9 N 1")[0]);
     assert_eq!((machine.paid, machine.clock), (22, 18));
+}
+
+#[test]
+fn the_machine_says_what_a_part_earns() {
+    let mut at_ten = machine(&behind(10), &[]);
+    assert_eq!(at_ten.follow(&parts("0 N 9")[0]), Some(0));
+    assert_eq!(at_ten.follow(&parts("0 N 1")[0]), Some(0));
+    assert_eq!(at_ten.follow(&parts("1 N 5")[0]), Some(22));
+    // A job that is done earns nothing more.
+    assert_eq!(at_ten.follow(&parts("1 N 5")[0]), Some(0));
+    assert_eq!(at_ten.paid, 22);
+
+    let mut too_late = machine(&behind(9), &[]);
+    assert_eq!(too_late.follow(&parts("0 N 9")[0]), Some(0));
+    assert_eq!(too_late.follow(&parts("0 N 1")[0]), None);
+    assert_eq!(too_late.follow(&parts("0 A 9")[0]), Some(0));
+    assert_eq!((too_late.paid, too_late.clock), (0, 19));
+    assert!(too_late.stations[0].finished());
 }
 
 #[test]

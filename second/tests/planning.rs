@@ -35,8 +35,6 @@ fn worth_of_a_curve() {
         termination: 30,
     };
     let expected = [
-        (0, 0),
-        (9, 0),
         (10, 5),
         (11, 7),
         (19, 23),
@@ -44,11 +42,12 @@ fn worth_of_a_curve() {
         (21, 100),
         (22, 97),
         (30, 73),
-        (31, 0),
-        (4_000_000_000, 0),
     ];
     for (t, value) in expected {
-        assert_eq!(worth(&curve, t), value, "at {t}");
+        assert_eq!(worth(&curve, t), Some(value), "at {t}");
+    }
+    for t in [0, 9, 31, 4_000_000_000] {
+        assert_eq!(worth(&curve, t), None, "at {t}");
     }
 }
 
@@ -174,7 +173,8 @@ fn the_largest_rollback_a_grant_can_make() {
                 .rollback(30_000)
                 .holds(0, 1, 30_000)
                 .holds(1, 60_000, 30_000)
-                .requests(2, 60_000, 30_000),
+                .requests(2, 60_000, 30_000)
+                .terminates(LAST_TIME),
         )
         .job(job(1, 1_000_000).requests(0, 1, 1).terminates(LAST_TIME))
         .job(job(1, 10).requests(1, 1, 1).terminates(LAST_TIME));
@@ -249,7 +249,8 @@ fn victims_by_exact_least_loss() {
     // Below zero is the least.
     assert_eq!(victims(ring((4, 0), (2, -1))), [1]);
     assert_eq!(victims(ring((9, -1), (2, -1))), [1]);
-    // The worth is that at now + run time left: past termination it is 0.
+    // The worth is that at now + run time left: past termination there is none,
+    // which counts as 0.
     assert_eq!(victims(ring((4, 1), (1_001, 1_000_000))), [1]);
 }
 
@@ -283,38 +284,46 @@ fn the_longest_list_of_victims() {
 }
 
 #[test]
-fn a_plan_may_end_past_the_last_book_time() {
+fn a_plan_may_end_at_the_last_book_time_and_not_past_it() {
     // 16 ms before that time. For job 2 alone job 0 runs (40/3 against 90/7), and
-    // so does job 1 (40/3 against 0/12). For job 3 job 0 rolls back (90/27 against
-    // 40/23), so does job 1 (5000/36 against 90/27), job 2 earns at the last moment,
-    // and job 3 runs on past it for nothing.
+    // so does job 1 (40/3 against 0/12). Before R-7 of 02 job 3's group was denser:
+    // job 2 then earns at the last moment, and job 3 runs on past it for nothing.
+    // Now it is no candidate.
     let now = LAST_TIME - 16;
-    let late = book(3)
-        .now(now)
-        .job(job(20, 0).rollback(5).holds(0, 1, 5).terminates(LAST_TIME))
-        .job(
-            job(20, 0)
-                .rollback(10)
-                .holds(1, 1, 10)
-                .requests(0, 1, 1)
-                .terminates(LAST_TIME),
-        )
-        .job(job(1, 0).holds(2, 1, 1).requests(1, 1, 1).curve(
-            &[
-                (now, 40, 0),
-                (now + 4, 90, 0),
-                (now + 8, 0, 0),
-                (now + 16, 5_000, 0),
-            ],
-            LAST_TIME,
-        ))
-        .job(job(20, 0).requests(2, 1, 1).terminates(LAST_TIME));
-    let end = i64::from(LAST_TIME) + 20;
-    let parts = "0 A 5, 1 A 10, 2 N 1, 3 N 20";
-    expect(&late, stated(&[], parts, 5_000, end, 1));
+    let late = |last: u32| {
+        book(3)
+            .now(now)
+            .job(job(20, 0).rollback(5).holds(0, 1, 5).terminates(LAST_TIME))
+            .job(
+                job(20, 0)
+                    .rollback(10)
+                    .holds(1, 1, 10)
+                    .requests(0, 1, 1)
+                    .terminates(LAST_TIME),
+            )
+            .job(job(1, 0).holds(2, 1, 1).requests(1, 1, 1).curve(
+                &[
+                    (now, 40, 0),
+                    (now + 4, 90, 0),
+                    (now + 8, 0, 0),
+                    (now + 16, 5_000, 0),
+                ],
+                LAST_TIME,
+            ))
+            .job(job(last, 1).requests(2, 1, 1).terminates(LAST_TIME))
+    };
+    let parts = "0 N 1, 1 N 1, 2 N 1";
+    expect(&late(20), stated(&[], parts, 40, i64::from(now) + 3, 1));
+    // With 13 ms job 3 ends at the last time, after job 2 in 3; with 14 past it.
+    let parts = "0 N 1, 1 N 1, 2 N 1, 3 N 13";
+    expect(&late(13), stated(&[], parts, 41, i64::from(LAST_TIME), 2));
+    expect(
+        &late(14),
+        stated(&[], "0 N 1, 1 N 1, 2 N 1", 40, i64::from(now) + 3, 1),
+    );
     let mut out = [7; 430];
-    assert_eq!(answer(&late.bytes(), &mut out), Ok(30));
-    assert_eq!(out[26..30], [0x80, 0, 0, 19]);
+    assert_eq!(answer(&late(13).bytes(), &mut out), Ok(30));
+    assert_eq!(out[26..30], [0x7F, 0xFF, 0xFF, 0xFF]);
 }
 
 #[test]

@@ -2,8 +2,11 @@
 //! about each, asserts demand 3 on each plan, and prints what it met. At the
 //! first fault it prints the book in hex and exits with 1.
 
+use second::book::{self, LAST_TIME};
 use second::make;
 use second::refusal::{self, Refusal};
+use second::replay::Machine;
+use second::rounds;
 use second::worth::worth;
 use second::{
     answer, check_demand3, curve_worth, first, first_listing, listing, plan, record, Plan,
@@ -25,7 +28,7 @@ fn main() {
         // A panic is a fault like any other: the book must be shown.
         let checked = std::panic::catch_unwind(|| check(kind, &book));
         match checked.unwrap_or_else(|_| Err("a call panicked".to_string())) {
-            Ok(planned) => tally.add(&planned),
+            Ok(planned) => tally.add(&book, &planned),
             Err(fault) => {
                 println!("fault in {kind} book of seed {seed}: {fault}");
                 println!("{}", hex(&book));
@@ -57,6 +60,8 @@ fn check(kind: &str, book: &[u8]) -> Result<Planned, String> {
     let planned = plan(book);
     if let Ok(plan) = &planned {
         check_demand3(book, plan)?;
+        // The last finish of a plan is inside a curve, and a curve ends by then.
+        that(plan.end <= LAST_TIME, "a plan ends past the last book time")?;
     }
     if let (Err(refused), "valid") = (&planned, kind) {
         that(
@@ -219,7 +224,7 @@ fn check_records(book: &[u8], planned: &Planned) -> Result<(), String> {
 /// A curve that is read alone is worth what it is in the book, and it ends where
 /// its record does. So bytes that are too few or too many are refused.
 fn check_worths(book: &[u8]) -> Result<(), String> {
-    let Ok(read) = second::book::read(book) else {
+    let Ok(read) = book::read(book) else {
         return Ok(());
     };
     for (job, range) in read.jobs.iter().zip(&read.records) {
@@ -269,11 +274,12 @@ struct Tally {
     split_jobs: u64,
     most_parts: usize,
     most_rounds: usize,
-    ends_late: u64,
+    ends_last: u64,
+    leaves_outside: u64,
 }
 
 impl Tally {
-    fn add(&mut self, planned: &Planned) {
+    fn add(&mut self, book: &[u8], planned: &Planned) {
         let plan = match planned {
             Ok(plan) => plan,
             Err(refused) => {
@@ -297,7 +303,8 @@ impl Tally {
         self.split_jobs += times.iter().filter(|&&parts| parts > 1).count() as u64;
         self.most_parts = self.most_parts.max(plan.parts.len());
         self.most_rounds = self.most_rounds.max(plan.rounds);
-        self.ends_late += u64::from(plan.end > 2_147_483_647);
+        self.ends_last += u64::from(plan.rounds > 0 && plan.end == LAST_TIME);
+        self.leaves_outside += u64::from(leaves_outside(book, plan));
     }
 
     fn print(&self, count: u64) {
@@ -323,7 +330,25 @@ impl Tally {
             "most parts {}, most rounds {}",
             self.most_parts, self.most_rounds
         );
-        println!("ends past the last book time {}", self.ends_late);
+        println!("plans to the last book time {}", self.ends_last);
+        println!(
+            "plans that leave a job whose group is no candidate {}",
+            self.leaves_outside
+        );
         println!("no fault");
     }
+}
+
+/// Whether a job is left at the end whose group is no candidate (02, R-7).
+fn leaves_outside(book: &[u8], plan: &Plan) -> bool {
+    let book = book::read(book).expect("it was planned");
+    let mut machine = Machine::begin(book.now, &book.jobs, &plan.victims);
+    for part in &plan.parts {
+        machine.follow(part);
+    }
+    let jobs = machine.jobs();
+    (0..jobs.len())
+        .filter(|&last| jobs[last].is_left())
+        .filter_map(|last| rounds::group(&jobs, machine.clock, last))
+        .any(|group| group.gain.utility.is_none())
 }

@@ -24,10 +24,9 @@ fn claim(resource: usize, hold: i64, rollback: i64) -> Claim {
     }
 }
 
-/// A book whose plan may end after the last time a book can name. That takes
-/// three jobs in a chain close to that time: the first is worth nothing in the
-/// group but something in the choice of mode, so it runs normally for the
-/// second alone and rolls back for the third, which comes too late to earn.
+/// A book close to the last time it can name: three jobs in a chain, of which the
+/// second may finish before its curve starts and the third comes too late to
+/// finish inside its own. A plan that took it up would end past that time.
 pub fn late(dice: &mut Dice) -> Draft {
     let now = LAST_TIME - dice.between(10, 14);
     let back = dice.between(4, 6);
@@ -74,4 +73,55 @@ pub fn turned(dice: &mut Dice) -> Draft {
         resources: 4,
         jobs,
     }
+}
+
+/// Three to five jobs in a chain whose curves begin and end just where the jobs
+/// may finish. So it hangs on none which mode is chosen and which group is a
+/// candidate, also in groups that are planned (02, R-7).
+pub fn narrow(dice: &mut Dice) -> Draft {
+    let count = dice.pick(&[3, 3, 4, 5]);
+    let now = dice.pick(&[0, 0, 50]);
+    let mut jobs = Vec::new();
+    for number in 0..count {
+        let is_last = number + 1 == count;
+        let run = dice.between(1, 6);
+        let never = dice.chance(10);
+        let rollback = if never { NEVER } else { dice.between(1, 6) };
+        // By then all before it may have finished or turned back.
+        let around = now + 3 * (number as i64 + 1);
+        let lowest = if is_last { 20 } else { -20 };
+        let curve = short_curve(dice, around, lowest);
+        let mut job = normal(run, rollback, curve);
+        let hold = if dice.chance(70) {
+            run
+        } else {
+            dice.between(1, run)
+        };
+        job.held.push(claim(number, hold, rollback));
+        if number > 0 {
+            job.request = Some(claim(number - 1, dice.between(1, run), 1));
+        }
+        jobs.push(job);
+    }
+    Draft {
+        now,
+        resources: count,
+        jobs,
+    }
+}
+
+/// A curve that often begins or ends near a moment.
+fn short_curve(dice: &mut Dice, around: i64, lowest: i64) -> Curve {
+    let mut near = || (around + dice.between(-3, 6)).max(0);
+    let (start, middle, end) = (near(), near(), near());
+    let start = if dice.chance(30) { start } else { 0 };
+    let mut curve = flat(start, dice.between(lowest, 60));
+    if middle > start && dice.chance(40) {
+        let value = dice.between(lowest, 60);
+        curve.pieces.extend(flat(middle, value).pieces);
+    }
+    if dice.chance(70) {
+        curve.termination = end.max(curve.pieces[curve.pieces.len() - 1].start);
+    }
+    curve
 }
