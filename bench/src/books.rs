@@ -23,6 +23,8 @@ enum Shape {
     Independent,
     Random,
     Chain,
+    /// A chain in which every other job is late.
+    HalfLate,
     /// Circles of so many jobs.
     Circles(usize),
 }
@@ -40,6 +42,7 @@ pub fn sets() -> Vec<Set> {
         }
     }
     sets.push(set("one circle", Shape::Circles(32), 32));
+    sets.push(set("chain, half late", Shape::HalfLate, 32));
     for jobs in [1, 30] {
         sets.push(spoilt(set("refused at its end", Shape::Independent, jobs)));
     }
@@ -86,13 +89,11 @@ fn book(shape: Shape, count: usize, seed: u64) -> Vec<u8> {
                 }
             }
         }
-        Shape::Chain => {
-            for at in 0..count {
-                let job = &mut jobs[order[at]];
-                hold(&mut dice, job, at);
-                if at > 0 {
-                    request(&mut dice, job, at - 1);
-                }
+        Shape::Chain => chain(&mut dice, &mut jobs, &order),
+        Shape::HalfLate => {
+            chain(&mut dice, &mut jobs, &order);
+            for number in order.iter().skip(1).step_by(2) {
+                late(&mut jobs[*number], now);
             }
         }
         Shape::Circles(size) => {
@@ -132,6 +133,30 @@ fn alone(dice: &mut Dice, now: i64) -> Job {
             ],
             termination: now + dice.between(3_000, 9_000),
         },
+    }
+}
+
+/// Each job holds a resource and requests that of the one before it.
+fn chain(dice: &mut Dice, jobs: &mut [Job], order: &[usize]) {
+    for (at, &number) in order.iter().enumerate() {
+        hold(dice, &mut jobs[number], at);
+        if at > 0 {
+            request(dice, &mut jobs[number], at - 1);
+        }
+    }
+}
+
+/// Moves a job's curve back until it is over, and makes its holds as long as its
+/// run: it can finish only at moments with none (R-7 of 02), so its own group is
+/// never a candidate, and the others' are only where it rolls back.
+fn late(job: &mut Job, now: i64) {
+    let over = job.curve.termination - now;
+    for piece in &mut job.curve.pieces {
+        piece.start -= over;
+    }
+    job.curve.termination = now;
+    for held in &mut job.held {
+        held.hold = job.run;
     }
 }
 

@@ -75,7 +75,10 @@ pub fn record(bytes: &[u8], job: usize) -> u64 {
 /// As the proved planner's worth call.
 pub fn worth(bytes: &[u8], moment: u32) -> u64 {
     match Curve::alone(bytes) {
-        Ok(curve) => u64::from(curve.worth(moment) as u32),
+        Ok(curve) => match curve.worth(moment) {
+            Some(worth) => u64::from(worth as u32),
+            None => WORTH_NONE,
+        },
         Err(refusal) => refusal,
     }
 }
@@ -104,6 +107,8 @@ impl Answer<'_> {
         self.place += 4;
     }
 }
+
+const WORTH_NONE: u64 = 1 << 31;
 
 const ROOM: u64 = 1;
 const SIZE: u64 = 2;

@@ -43,10 +43,15 @@ fn of_part(part: &Part) -> u64 {
     ((part.job as u64) << 24) + (u64::from(part.rollback) << 16) + u64::from(time)
 }
 
-/// What the worth call must give: the worth as the 32 bits of two's complement.
-pub fn of_worth(worth: &Result<i64, Refusal>) -> u64 {
+/// What the worth call gives outside the curve (02, R-7). No worth has these bits.
+pub const WORTH_NONE: u64 = 1 << 31;
+
+/// What the worth call must give: the worth as the 32 bits of two's complement, or
+/// 2^31 where there is none.
+pub fn of_worth(worth: &Result<Option<i64>, Refusal>) -> u64 {
     match worth {
-        Ok(worth) => {
+        Ok(None) => WORTH_NONE,
+        Ok(Some(worth)) => {
             let worth = i32::try_from(*worth).expect("a worth is at most 1,000,000 from zero");
             u64::from(worth as u32)
         }
@@ -85,6 +90,7 @@ pub fn first_in_words(code: u64) -> String {
 /// A worth call's number in words.
 pub fn worth_in_words(code: u64) -> String {
     match u32::try_from(code) {
+        _ if code == WORTH_NONE => "none".to_string(),
         Ok(bits) => format!("worth {}", bits as i32),
         Err(_) => refused_in_words(code),
     }
@@ -127,10 +133,11 @@ mod tests {
 
     #[test]
     fn a_worth_as_a_number() {
-        assert_eq!(of_worth(&Ok(0)), 0);
-        assert_eq!(of_worth(&Ok(1_000_000)), 0xF_4240);
-        assert_eq!(of_worth(&Ok(-1)), 0xFFFF_FFFF);
-        assert_eq!(of_worth(&Ok(-1_000_000)), 0xFFF0_BDC0);
+        assert_eq!(of_worth(&Ok(None)), 2_147_483_648);
+        assert_eq!(of_worth(&Ok(Some(0))), 0);
+        assert_eq!(of_worth(&Ok(Some(1_000_000))), 0xF_4240);
+        assert_eq!(of_worth(&Ok(Some(-1))), 0xFFFF_FFFF);
+        assert_eq!(of_worth(&Ok(Some(-1_000_000))), 0xFFF0_BDC0);
         let tail = Refusal::new(refusal::TAIL, 15);
         assert_eq!(of_worth(&Err(tail)), 0x9_0000_000F);
         let cut = Refusal::new(refusal::CUT, 0);
@@ -140,6 +147,7 @@ mod tests {
     #[test]
     fn a_worth_in_words() {
         assert_eq!(worth_in_words(0), "worth 0");
+        assert_eq!(worth_in_words(2_147_483_648), "none");
         assert_eq!(worth_in_words(0xF_4240), "worth 1000000");
         assert_eq!(worth_in_words(0xFFF0_BDC0), "worth -1000000");
         assert_eq!(worth_in_words(0x5_0000_0000), "refused 5 (CUT) at 0");

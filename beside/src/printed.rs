@@ -113,7 +113,7 @@ mod tests {
                  0 record 0 {record}\n\
                  0 first 0 1 2\n\
                  0 word 65538\n\
-                 0 worth 0 0 0 0 0\n\
+                 0 worth 0 0 0 0 2147483648\n\
                  victims 0\npart 0 A 2 at 0\npart 1 N 5 at 2\ntotal 22 end 7 rounds 1\n\
                  part 0 A 2 at 0\n"
             )
@@ -161,7 +161,7 @@ mod tests {
                  11 record 1 {record}\n\
                  11 first refused 10 at 0\n\
                  11 word 42949672960\n\
-                 11 worth 20 20 20 20 0\n\
+                 11 worth 20 20 20 20 2147483648\n\
                  refused 10 at 0\n\
                  refused 10 at 0\n"
             )

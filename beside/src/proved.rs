@@ -28,8 +28,8 @@ pub fn first(book: &[u8]) -> u64 {
     unsafe { face::ilhuepatl_first(book.as_ptr(), book.len()) }
 }
 
-/// What a curve's bytes are worth at `t`, as the 32 bits of two's complement.
-/// Where they are refused, number x 2^32 + place.
+/// What a curve's bytes are worth at `t`, as the 32 bits of two's complement, or
+/// 2^31 outside the curve. Where they are refused, number x 2^32 + place.
 #[inline]
 pub fn worth(curve: &[u8], t: u32) -> u64 {
     // SAFETY: as above; nothing is written.

@@ -24,15 +24,17 @@ pub struct Worths {
     below_zero: u64,
     zero: u64,
     above_zero: u64,
+    none: u64,
     refused: [u64; 11],
 }
 
 impl Worths {
-    pub fn add(&mut self, worth: &Result<i64, Refusal>) {
+    pub fn add(&mut self, worth: &Result<Option<i64>, Refusal>) {
         match worth {
-            Ok(..=-1) => self.below_zero += 1,
-            Ok(0) => self.zero += 1,
-            Ok(1..) => self.above_zero += 1,
+            Ok(Some(..=-1)) => self.below_zero += 1,
+            Ok(Some(0)) => self.zero += 1,
+            Ok(Some(1..)) => self.above_zero += 1,
+            Ok(None) => self.none += 1,
             Err(refusal) => self.refused[usize::from(refusal.number)] += 1,
         }
     }
@@ -41,6 +43,7 @@ impl Worths {
         self.below_zero += other.below_zero;
         self.zero += other.zero;
         self.above_zero += other.above_zero;
+        self.none += other.none;
         for (sum, count) in self.refused.iter_mut().zip(other.refused) {
             *sum += count;
         }
@@ -104,10 +107,11 @@ impl Tally {
         println!("record questions {}", self.questions);
         let worths = &self.worths;
         println!(
-            "worths: {} above zero, {} zero, {} below; refused: {}",
+            "worths: {} above zero, {} zero, {} below, {} none; refused: {}",
             worths.above_zero,
             worths.zero,
             worths.below_zero,
+            worths.none,
             by_number(&worths.refused, [CUT, RANGE, TAIL])
         );
     }

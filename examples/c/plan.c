@@ -33,6 +33,8 @@ static void print_worth(const uint8_t *book, size_t length)
     uint64_t worth = ilhuepatl_worth(book + curve, end - curve, now);
     if (ILHUEPATL_NUMBER(worth) != 0)
         printf("worth: refused %u at %lu\n", ILHUEPATL_NUMBER(worth), (unsigned long)ILHUEPATL_PLACE(worth));
+    else if (worth == ILHUEPATL_WORTH_NONE)
+        printf("worth: none, job 0's curve does not hold now\n");
     else
         printf("worth: %ld if job 0 finished now\n", (long)ILHUEPATL_WORTH(worth));
 }

@@ -115,6 +115,24 @@ fn only_the_rollback_course_has_none() {
 }
 
 #[test]
+fn only_the_rollback_course_has_none_in_a_group_that_is_planned() {
+    // Job 1 loses 1,000 at 10 and nothing from 11 on. For job 0 by density alone:
+    // -970/13 normally, 0/14 or 30/14 in rollback. Job 1 then rolls back itself.
+    let three = |termination: u32| {
+        let rising = job(4, 0)
+            .holds(1, 4, 1)
+            .requests(0, 4, 1)
+            .curve(&[(0, -1_000, 0), (11, 0, 0)], 1_000);
+        book(2)
+            .job(job(20, 0).rollback(7).holds(0, 6, 7))
+            .job(rising)
+            .job(job(3, 30).requests(1, 3, 1).terminates(termination))
+    };
+    expect(&three(13), stated(&[], "0 N 6, 1 A 1, 2 N 3", 30, 10, 1));
+    expect(&three(14), stated(&[], "0 A 7, 1 A 1, 2 N 3", 30, 11, 1));
+}
+
+#[test]
 fn none_in_the_group_so_far_counts_for_both_courses() {
     // After the 10 ms and the utility 5 of job 0: 70/18 normally, 65/14 in rollback.
     let three = |termination: u32| {

@@ -46,17 +46,17 @@ pub const NO_CURVE: Curve = Curve {
 };
 
 impl Curve {
-    /// The worth at a moment.
-    pub fn worth(&self, moment: u32) -> i64 {
+    /// The worth at a moment, or none outside the curve (R-7 of 02).
+    pub fn worth(&self, moment: u32) -> Option<i64> {
         if moment > self.termination {
-            return 0;
+            return None;
         }
         for piece in (0..self.count).rev() {
             if self.start[piece] <= moment {
-                return self.value_in(piece, moment);
+                return Some(self.value_in(piece, moment));
             }
         }
-        0
+        None
     }
 
     /// The worth in a piece that starts at or before the moment.

@@ -1,5 +1,5 @@
-//! Choosing a mode (VI.5 of 000 under 01's rulings and R-3 of 02: only work that
-//! is finished is credited).
+//! Choosing a mode (VI.5 of 000 under 01's rulings, R-3 of 02: only work that is
+//! finished is credited, and R-7: a course with none among its credits loses).
 
 use super::book::{Book, NEVER};
 use super::rounds::Waits;
@@ -11,7 +11,7 @@ pub fn denser(utility: i64, time: u32, other: i64, other_time: u32) -> bool {
 }
 
 /// Whether the job at a place before the chain's last rolls back, the group so
-/// far being worth `utility` after `time`.
+/// far being worth `utility` after `time` and having no none.
 pub fn rolls_back(
     book: &Book,
     waits: &Waits,
@@ -30,8 +30,12 @@ pub fn rolls_back(
     let next = usize::from(chain[1]);
     let mut normal_time = time + waits.hold[next];
     let mut normal = utility;
+    let mut normal_inside = true;
     if waits.hold[next] == book.run[job] {
-        normal += book.curve[job].worth(moment + normal_time);
+        match book.curve[job].worth(moment + normal_time) {
+            Some(worth) => normal += worth,
+            None => normal_inside = false,
+        }
     }
     let mut back_time = time + waits.hold_back[next];
     let mut back = utility;
@@ -48,9 +52,16 @@ pub fn rolls_back(
         normal_time += span;
         back_time += span;
         if !rolling && span == book.run[job] {
-            normal += book.curve[job].worth(moment + normal_time);
-            back += book.curve[job].worth(moment + back_time);
+            // With none in the rollback course normal wins, whatever else comes.
+            let Some(worth) = book.curve[job].worth(moment + back_time) else {
+                return false;
+            };
+            back += worth;
+            match book.curve[job].worth(moment + normal_time) {
+                Some(worth) => normal += worth,
+                None => normal_inside = false,
+            }
         }
     }
-    denser(back, back_time, normal, normal_time)
+    !normal_inside || denser(back, back_time, normal, normal_time)
 }

@@ -69,7 +69,7 @@ fn around(book: &Book, start: usize) -> (usize, u8) {
         if book.back[at] != NEVER {
             // No job in rollback has a request, so none is on a circle.
             let time = i64::from(book.run[at]);
-            let loss = book.curve[at].worth(book.now + book.run[at]);
+            let loss = book.curve[at].worth(book.now + book.run[at]).unwrap_or(0);
             let (new, old) = (loss * least_time, least * time);
             if victim == NONE || new < old || new == old && at < usize::from(victim) {
                 victim = at as u8;

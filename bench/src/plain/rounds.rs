@@ -92,13 +92,15 @@ fn best<'a>(book: &Book, moment: u32, groups: &'a mut [Group; 2]) -> &'a Group {
             continue;
         }
         let new = 1 - best;
-        groups[new].build(book, &waits, moment, last);
-        if denser(
-            groups[new].utility,
-            groups[new].time,
-            groups[best].utility,
-            groups[best].time,
-        ) {
+        let candidate = groups[new].build(book, &waits, moment, last);
+        if candidate
+            && denser(
+                groups[new].utility,
+                groups[new].time,
+                groups[best].utility,
+                groups[best].time,
+            )
+        {
             best = new;
         }
     }
@@ -124,7 +126,9 @@ fn waits(book: &Book) -> Waits {
 }
 
 impl Group {
-    fn build(&mut self, book: &Book, waits: &Waits, moment: u32, last: usize) {
+    /// Whether it is a candidate. It is left half built at the first finish with
+    /// none (R-7 of 02).
+    fn build(&mut self, book: &Book, waits: &Waits, moment: u32, last: usize) -> bool {
         // Once the victims are in rollback no wait leads into a circle, so a
         // chain has at most 32 jobs.
         self.from = 31;
@@ -160,12 +164,16 @@ impl Group {
             }
             time += span;
             if !rollback && span == book.run[job] {
-                utility += book.curve[job].worth(moment + time);
+                match book.curve[job].worth(moment + time) {
+                    Some(worth) => utility += worth,
+                    None => return false,
+                }
             }
             self.rollback[at] = rollback;
             self.span[at] = span;
         }
         self.time = time;
         self.utility = utility;
+        true
     }
 }

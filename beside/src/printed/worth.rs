@@ -10,7 +10,7 @@ pub fn line(number: usize, book: &[u8]) -> String {
 }
 
 /// What the call must say of the part that the corpus program asks about.
-pub fn answers(number: usize, book: &[u8]) -> [Result<i64, Refusal>; 5] {
+pub fn answers(number: usize, book: &[u8]) -> [Result<Option<i64>, Refusal>; 5] {
     let part = part(number, book);
     moments(part).map(|t| curve_worth(part, t))
 }
@@ -56,12 +56,21 @@ mod tests {
     /// that of job 1, the last, at 51. Both are flat from 0 to 100.
     const FIVE: &[u8] = include_bytes!("../../../examples/case05.book");
 
+    /// Flat at 22, and none after the termination.
+    const FLAT: [Result<Option<i64>, Refusal>; 5] = [
+        Ok(Some(22)),
+        Ok(Some(22)),
+        Ok(Some(22)),
+        Ok(Some(22)),
+        Ok(None),
+    ];
+
     #[test]
     fn a_whole_curve() {
         assert_eq!(part(15, FIVE), &FIVE[25..40]);
         assert_eq!(part(6, FIVE), &FIVE[51..]);
-        assert_eq!(answers(6, FIVE), [22, 22, 22, 22, 0].map(Ok));
-        assert_eq!(line(6, FIVE), "6 worth 22 22 22 22 0\n");
+        assert_eq!(answers(6, FIVE), FLAT);
+        assert_eq!(line(6, FIVE), "6 worth 22 22 22 22 2147483648\n");
     }
 
     #[test]
@@ -82,7 +91,7 @@ mod tests {
         assert_eq!(answers(5, FIVE), [Err(Refusal::new(TAIL, 15)); 5]);
         // Nothing stands after the last job's.
         assert_eq!(part(11, FIVE), &FIVE[51..]);
-        assert_eq!(answers(11, FIVE), [22, 22, 22, 22, 0].map(Ok));
+        assert_eq!(answers(11, FIVE), FLAT);
     }
 
     #[test]

@@ -53,15 +53,16 @@ pub unsafe extern "C" fn second_first(book: *const u8, book_len: usize) -> u64 {
     }
 }
 
-/// The worth of a curve's bytes at `t`, as 32 bits of two's complement. Where
-/// they are refused, number x 2^32 + place.
+/// The worth of a curve's bytes at `t`, as 32 bits of two's complement, or 2^31
+/// outside the curve. Where they are refused, number x 2^32 + place.
 ///
 /// # Safety
 /// `curve` points to `curve_len` bytes.
 #[no_mangle]
 pub unsafe extern "C" fn second_worth(curve: *const u8, curve_len: usize, t: u32) -> u64 {
     match second::curve_worth(from_raw_parts(curve, curve_len), t) {
-        Ok(worth) => u64::from(worth as i32 as u32),
+        Ok(Some(worth)) => u64::from(worth as i32 as u32),
+        Ok(None) => 1 << 31,
         Err(refusal) => code(refusal),
     }
 }

@@ -42,9 +42,10 @@ pub fn books() -> Vec<Vec<u8>> {
     books
 }
 
-/// A plan that ends after the last time that a book can name. For the third job
-/// alone the first runs, since that is denser; for the fourth, which takes long
-/// and comes too late to earn, the first rolls back, and then so does the second.
+/// A plan that would end after the last time that a book can name, if a job that
+/// is too late could be planned. For the third job alone the first runs, since
+/// that is denser; for the fourth, which takes long and finishes too late, both
+/// courses have none, and its group is no candidate.
 fn late() -> Vec<u8> {
     let now = LAST_TIME - 16;
     let flat = |value: i64| [(0, value, 0)];

@@ -10,6 +10,7 @@ mod draft;
 mod fields;
 mod full;
 mod kept;
+mod outside;
 mod parts;
 mod random;
 mod refusals;
@@ -61,6 +62,8 @@ fn corpus() -> io::Result<Vec<Vec<u8>>> {
     corpus.add("circles", circles::books());
     corpus.add("full books", full::books());
     corpus.add("kept from the fuzzer", kept::books(Path::new(KEPT))?);
+    // After all that stood here before R-7, whose numbers so stay.
+    corpus.add("outside the curve", outside::books());
     if corpus.bytes > MOST_BYTES {
         stop(&format!(
             "that is over {MOST_BYTES} bytes: take some books out of {KEPT}"
