@@ -53,13 +53,15 @@ uint64_t ilhuepatl_first(const uint8_t *book, size_t book_length);
 
 /* What finishing at moment t is worth by one curve, asked where it stands: its bytes from the piece count to the
    termination, and nothing after them. At byte 10 of a job's record stands its held count h; its curve begins at byte
-   11 + 5 x h and ends where the record does. The worth is 0 before the first start and after the termination, at which the
-   curve still holds. Below 2^32 the number is the worth in 32 bits of two's complement, -1,000,000 to 1,000,000; 2^31 is
-   never given today and is kept free. 2^32 and above is a refusal: CUT, RANGE, or TAIL for bytes after the termination,
-   with the place counted from the curve's first byte. */
+   11 + 5 x h and ends where the record does. Before the first start and after the termination there is none, which is not
+   0: the number is then 2^31, ILHUEPATL_WORTH_NONE. At both the curve holds. Any other number below 2^32 is the worth in
+   32 bits of two's complement, -1,000,000 to 1,000,000. 2^32 and above is a refusal: CUT, RANGE, or TAIL for bytes after
+   the termination, with the place counted from the curve's first byte. */
 uint64_t ilhuepatl_worth(const uint8_t *curve, size_t curve_length, uint32_t t);
 
-/* Of such a number, if it is no refusal: the worth. */
+#define ILHUEPATL_WORTH_NONE 2147483648u
+
+/* Of such a number, if it is neither none nor a refusal: the worth. */
 #define ILHUEPATL_WORTH(word) ((int32_t)((int64_t)((word) ^ 2147483648u) - 2147483648))
 
 #ifdef __cplusplus
