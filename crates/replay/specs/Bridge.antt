@@ -7,6 +7,7 @@ use native.Mathlib.Decide.{decLt}
 use native.Mathlib.Omega.{arith}
 use lib.IntN.{pos, +ℤ-idl}
 use lib.ListN.{length, take}
+use Rattle.curve.specs.Worth.{defined}
 use Rattle.job.specs.declared.Request.{Request}
 use Rattle.job.specs.declared.Job.{Job}
 use Rattle.job.specs.Job.{holdOf}
@@ -92,7 +93,9 @@ module _ {pay : Pay} {way : Way} {m : Machine} {js : List Job} {plan : Plan} (a 
     rollback-kept = λ t i h. rw (agrees-by t .same i .rollback, a .same i .rollback, grants-are i a s (parts-done t (d .replay))) (rollback-kept i s (parts-done t (d .replay)) (rw (agrees-by t .same i .rollback) at h) .1);
     pays-total = paid-all a s (d .replay) ∙ rw (unpaid .0) (+ℤ-idl (paid pay js (m .clock) (plan .parts))) ∙ sym (d .total);
     none-unpaid = unpaid-all a s (d .replay) (d .inside) ∙ unpaid .1;
-    finishes-inside = λ k l. rw (earnings-are (agrees-before k) (sound-before k) (proper k l) (follow m (take k (plan .parts)) .clock + partAt (plan .parts) k .time), clock-all m (take k (plan .parts))) (part-inside pay js (m .clock) k (plan .parts) (d .inside) l);
+    finishes-inside = λ k l.
+        let end : ℕ = follow m (take k (plan .parts)) .clock + partAt (plan .parts) k .time in
+        ap defined (earnings-are (agrees-before k) (sound-before k) (proper k l) end) ∙ (rw (clock-all m (take k (plan .parts))) (part-inside pay js (m .clock) k (plan .parts) (d .inside) l));
     none-worthwhile = λ i e q. ap worthwhile (course-seen i) ∙ d .rest i (record {
       member = left-member (sound-all s (d .replay)) i (sym (left-is agrees-end (sound-all s (d .replay)) i) ∙ e);
       inside = sym (ap (λ (c : Course). c .inside) (course-seen i)) ∙ q;

@@ -47,7 +47,9 @@ worth-read : (w : Worth) → natAbs (amount w) ≤ 1000000 → readWorth (worthB
 worth-read None h = refl
 worth-read (Of z) h =
     let size = abs-is z in
-    rw (ne-eqb (bits z) 2147483648 (bits-free z (omega (arith, size, h)) (omega (arith, size, h))), signed-read z (omega (arith, size, h)) (omega (arith, size, h)))
+    let other = ne-eqb (bits z) 2147483648 (bits-free z (omega (arith, size, h)) (omega (arith, size, h))) in
+    let same = signed-read z (omega (arith, size, h)) (omega (arith, size, h)) in
+    λ d. cond (other d) None (Of (same d))
 
 -- and has no upper half
 worth-below : (w : Worth) → worthBits w < 4294967296
