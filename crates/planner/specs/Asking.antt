@@ -63,7 +63,7 @@ pub record Undoing (v : View) (t : ℕ) (members : List ℕ) (k : ℕ) (c : Cour
   pub more : k < 31
   pub inside : c .inside ≡ true
 
--- of those after place k, by the time that has passed before them
+-- of those after place k, by the time that a course has taken before them
 pub record Lasting (v : View) (t : ℕ) (members : List ℕ) (k time : ℕ) : Type 0 where
   pub seeing : Seeing v t
   pub members-below : Below 32 members

@@ -20,7 +20,7 @@ use crate::wide;
 use curve::Worth;
 use gus::Course;
 
-// Whether the course that has taken so much time before place k has no none among its credits after it, each member in its own mode.
+// Whether a course that has taken so much time with the member at place k goes on inside its curves, each later member in its own mode.
 fn stays_inside<'a>(
     bytes: &'a [u8],
     sheet: &'a [u32; 288],
