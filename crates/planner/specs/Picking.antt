@@ -1,6 +1,6 @@
 -- The choice between a job and the one taken so far, by whatever test: none is taken yet, or the job wins.
 use mathlib.Core.Path.{_≡_, refl, sym, ap, _∙_}
-use mathlib.Core.Bool.{Bool, true, false}
+use mathlib.Core.Bool.{Bool, true, false, cond}
 use Prim.Native.Nat.{ℕ}
 use Rattle.gus.specs.declared.Course.{Course}
 use Rattle.gus.specs.declared.Best.{Best}
@@ -15,18 +15,20 @@ unfoldable pub picked : Bool → ℕ → Course → Best → Best
 picked wins job c b = elim (b .some) [ true ↦ elim wins [ true ↦ taken job c | false ↦ b ] | false ↦ taken job c ]
 
 module _ (job : ℕ) (c : Course) (b : Best) where
-  module _ (wins : Bool) where
-    pub picked-first : b .some ≡ false → taken job c ≡ picked wins job c b
-    unfolding picked
-    picked-first p = sym (λ k. elim (p k) [ true ↦ elim wins [ true ↦ taken job c | false ↦ b ] | false ↦ taken job c ])
+  -- field by field: the job is taken where it wins or none is taken yet
+  pub picked-fields : (wins taken′ : Bool) → taken′ ≡ cond (b .some) wins true
+      → record { some = true; last = cond taken′ job (b .last); course = record { time = cond taken′ (c .time) (b .course .time); gain = cond taken′ (c .gain) (b .course .gain); inside = cond taken′ (c .inside) (b .course .inside) } }
+      ≡ picked wins job c b
+  unfolding picked
+  picked-fields wins taken′ e = rw e (by (b .some) wins refl)
+    where
+      fields : Bool → Best
+      fields x = record { some = true; last = cond x job (b .last); course = record { time = cond x (c .time) (b .course .time); gain = cond x (c .gain) (b .course .gain); inside = cond x (c .inside) (b .course .inside) } }
 
-    pub picked-won : b .some ≡ true → wins ≡ true → taken job c ≡ picked wins job c b
-    unfolding picked
-    picked-won p q = sym (λ k. elim (p k) [ true ↦ elim (q k) [ true ↦ taken job c | false ↦ b ] | false ↦ taken job c ])
-
-    pub picked-kept : b .some ≡ true → wins ≡ false → b ≡ picked wins job c b
-    unfolding picked
-    picked-kept p q = sym (λ k. elim (p k) [ true ↦ elim (q k) [ true ↦ taken job c | false ↦ b ] | false ↦ taken job c ])
+      by : (some w : Bool) → b .some ≡ some → fields (cond some w true) ≡ elim some as (λ _. Best) [ true ↦ elim w as (λ _. Best) [ true ↦ taken job c | false ↦ b ] | false ↦ taken job c ]
+      by true true q = refl
+      by true false q = λ d. record { some = sym q d; last = b .last; course = b .course }
+      by false w q = refl
 
   better-picked : better job c b ≡ picked (denser c (b .course)) job c b
   unfolding better picked
