@@ -1,7 +1,7 @@
 -- The record question (01, "hands back one job's record as a part of the book").
 use Rattle.std.specs.Prelude.{ℕ, ◌+◌, ◌-◌, ◌≡◌, cond, List, [], ltb, get_or, take, drop}
 use Rattle.std.proofs.Common.{arith}
-use Rattle.std.specs.Borrow.{GName, Bor, MutBor}
+use Rattle.std.specs.Borrow.{Bor}
 use Rattle.book.specs.declared.Span.{Span}
 use Rattle.book.specs.declared.question.Found.{Found}
 use Rattle.book.specs.declared.question.RecordAnswer.{RecordAnswer}
@@ -20,22 +20,21 @@ found_in s job =
 abbrev pub between : List ℕ → ℕ → ℕ → List ℕ
 between s start end = take (end - start) (drop start s)
 
--- THE PART OF A LENT SLICE, the reference itself: it points `start` bytes on in the slice's own memory, and its bytes are the slice's from start to end.
--- A reference's third field is the name under which the logic follows its bytes: a new part has a new name, which says nothing of the machine and which no code sees
-abbrev pub part_between : MutBor (List ℕ) → ℕ → ℕ → GName → MutBor (List ℕ)
-part_between s start end γ = record { ref_ptr = (s.ptr.0, start + s.ptr.1); ghost_name = γ; now = between s.now start end }
+-- THE PART OF A LENT SLICE, the reference itself: it points `start` bytes on in the slice's own memory, and its bytes are the slice's from start to end
+abbrev pub part_between : Bor (List ℕ) → ℕ → ℕ → Bor (List ℕ)
+part_between s start end = record { ref_ptr = (s.ref_ptr.0, start + s.ref_ptr.1); now = between s.now start end }
 
 -- from 0 to 0 it is the empty part at the slice's first byte
-no_part : (s : MutBor (List ℕ)) (γ : GName) → part_between s 0 0 γ ≡ record { ref_ptr = s.ref_ptr; ghost_name = γ; now = [] }
-no_part s γ =
+no_part : (s : Bor (List ℕ)) → part_between s 0 0 ≡ record { ref_ptr = s.ref_ptr; now = [] }
+no_part s =
     let e : 0 + s.ref_ptr.1 ≡ s.ref_ptr.1 = omega arith in
-    λ i. record { ref_ptr = (s.ref_ptr.0, e i); ghost_name = γ; now = [] }
+    λ i. record { ref_ptr = (s.ref_ptr.0, e i); now = [] }
 
 -- p is "one job's record as a part of the book"; where there is none, the empty part at the book's first byte
-abbrev pub IsRecord : MutBor (List ℕ) → ℕ → MutBor (List ℕ) → Type 0
+abbrev pub IsRecord : Bor (List ℕ) → ℕ → Bor (List ℕ) → Type 0
 IsRecord s job p =
     let f = found_in s.now job in
-    p ≡ part_between s f.start f.end p.name
+    p ≡ part_between s f.start f.end
 
 -- THE ANSWER: number, place and part
 abbrev pub Answers : Bor (List ℕ) → ℕ → RecordAnswer → Type 0

@@ -10,14 +10,14 @@ use cursor::Reading;
 use cursor::field::{RANGE, TWICE, field, rule};
 
 // No code makes one of these two: the definitions of specs/Format speak of them.
-#[derive(Drop)]
+#[derive(Clone, Copy)]
 pub struct EntryRead {
     pub reading: Reading,
     pub entry: Entry,
 }
 
 // what a list has read: entries 0 .. holds, and who holds what
-#[derive(Drop)]
+#[derive(Clone, Copy)]
 pub struct HeldList {
     pub reading: Reading,
     pub holds: usize,

@@ -1,4 +1,6 @@
 // The job book's reader: any string of bytes gives where the book's records stand, or a refusal with a number and a place (01, "The job book", "What a refusal says").
+#![tactic(auto)]
+
 use curve::Curve;
 use job::Request;
 
@@ -14,7 +16,7 @@ pub mod worth; // worth.rt: the bytes of one curve, asked for their worth
 // No code makes a Record, a Span or a Book: the definitions of specs/Format speak of them.
 
 // One line of a held list.
-#[derive(Drop)]
+#[derive(Clone, Copy)]
 pub struct Entry {
     pub resource: u8,
     pub hold: u16,
@@ -22,7 +24,7 @@ pub struct Entry {
 }
 
 // One job's record, in book order: entries 0 .. holds of held are the held list.
-#[derive(Drop)]
+#[derive(Clone, Copy)]
 pub struct Record {
     pub mode: u8,
     pub run: u16,
@@ -34,7 +36,7 @@ pub struct Record {
 }
 
 // The bytes of a record: from start up to end.
-#[derive(Drop)]
+#[derive(Clone, Copy)]
 pub struct Span {
     pub start: usize,
     pub end: usize,
@@ -42,7 +44,7 @@ pub struct Span {
 
 // number: 0, or the refusal's, and then place is its place and the rest is empty.
 // Records and spans stand by job number, 0 .. jobs; holders by resource, 255 where nobody holds it.
-#[derive(Drop)]
+#[derive(Clone, Copy)]
 pub struct Book {
     pub number: u8,
     pub place: usize,
@@ -57,7 +59,7 @@ pub struct Book {
 // A book judged: its refusal, or what it has but for its records, and where these stand.
 // number: 0, or the refusal's, and then place is its place and the rest is empty. starts: the first byte of each record, and after the last of
 // them the byte after it; 0 in the places after that. holders: by resource, 255 where nobody holds it.
-#[derive(Drop)]
+#[derive(Clone, Copy)]
 pub struct Judged {
     pub number: u8,
     pub place: usize,

@@ -9,14 +9,14 @@ use cursor::field::{RANGE, field, rule};
 use curve::fields::piece_from;
 use curve::{Curve, Piece};
 
-#[derive(Drop)]
+#[derive(Clone, Copy)]
 pub struct PieceRead {
     pub reading: Reading,
     pub piece: Piece,
 }
 
 // The reading after the pieces, and the last of them.
-#[derive(Drop)]
+#[derive(Clone, Copy)]
 pub struct PiecesJudged {
     pub reading: Reading,
     pub last: Piece,
@@ -24,7 +24,7 @@ pub struct PiecesJudged {
 
 // No code makes one of these two: the definitions of specs/Format speak of them.
 // What a list has read: pieces 0 .. count, the last of them, and the least start of the next.
-#[derive(Drop)]
+#[derive(Clone, Copy)]
 pub struct PieceList {
     pub reading: Reading,
     pub count: usize,
@@ -33,7 +33,7 @@ pub struct PieceList {
     pub low: usize,
 }
 
-#[derive(Drop)]
+#[derive(Clone, Copy)]
 pub struct CurveRead {
     pub reading: Reading,
     pub curve: Curve,

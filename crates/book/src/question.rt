@@ -4,7 +4,7 @@ ghost use Rattle.book.specs.Question.{found_in, part_between, IsRecord, Answers}
 
 use crate::judge::judge;
 
-#[derive(Drop)]
+#[derive(Clone, Copy)]
 pub struct Found {
     pub number: u8,
     pub place: usize,
@@ -13,7 +13,7 @@ pub struct Found {
 }
 
 // number and place: the refusal's, or 0 and 0. part: the record, and empty where there is none.
-#[derive(Drop)]
+#[derive(Clone, Copy)]
 pub struct RecordAnswer<'a> {
     pub number: u8,
     pub place: usize,
@@ -47,7 +47,7 @@ pub fn find_record(s: &[u8], job: usize) -> Found
 
 fn part<'a>(s: &'a [u8], start: usize, end: usize) -> &'a [u8]
     requires { (start ≤ end) × (end ≤ length s.now) }
-    ensures { result ≡ part_between s.entry start end result.name }
+    ensures { result ≡ part_between s.entry start end }
 {
     &s[start..end]
 }

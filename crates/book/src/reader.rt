@@ -12,14 +12,14 @@ use cursor::Reading;
 use cursor::field::{MODE, RANGE, TAIL, field, rule};
 
 // No code makes one of these two: the definitions of specs/Format speak of them.
-#[derive(Drop)]
+#[derive(Clone, Copy)]
 pub struct RecordRead {
     pub reading: Reading,
     pub holders: [u8; 32],
     pub job: Record,
 }
 
-#[derive(Drop)]
+#[derive(Clone, Copy)]
 pub struct Records {
     pub reading: Reading,
     pub records: [Record; 32],

@@ -8,7 +8,7 @@ use cursor::Reading;
 use cursor::field::{RANGE, field, rule};
 use job::Request;
 
-#[derive(Drop)]
+#[derive(Clone, Copy)]
 pub struct Requested {
     pub reading: Reading,
     pub request: Request,

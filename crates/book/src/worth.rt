@@ -9,7 +9,7 @@ use curve::Worth;
 use curve::question::worth_at;
 
 // number: 0, or the refusal's, and then place is its place and worth is none.
-#[derive(Drop)]
+#[derive(Clone, Copy)]
 pub struct CurveWorth {
     pub number: u8,
     pub place: usize,

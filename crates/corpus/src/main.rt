@@ -1,5 +1,7 @@
 // The proved planner on a file of books: what each public call says of each book, held to what the second planner says of it.
 // In the file `books` each book stands behind its byte count (2 bytes), so that damaged books can stand there too.
+#![tactic(auto)]
+
 mod answer;
 mod first;
 mod listing;

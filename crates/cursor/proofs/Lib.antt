@@ -1,5 +1,2 @@
 pub mod Both
 pub mod Only
-pub mod Walk
-pub mod Lent
-pub mod Operand

@@ -8,7 +8,7 @@ use crate::field::field;
 
 // number: 0, or the refusal's. place: the field's first byte, or the refusal's place. value: the field's value, or 0.
 // next: the byte after the field, and after a refusal the place where the reader stood.
-#[derive(Drop)]
+#[derive(Clone, Copy)]
 pub struct Step {
     pub number: u8,
     pub place: usize,
@@ -16,14 +16,14 @@ pub struct Step {
     pub next: usize,
 }
 
-#[derive(Drop)]
+#[derive(Clone, Copy)]
 pub struct BookReader<'a> {
     pub book: &'a [u8],
     pub place: usize,
 }
 
 // A step, and the reader at the step's next.
-#[derive(Drop)]
+#[derive(Clone, Copy)]
 pub struct NextField<'a> {
     pub step: Step,
     pub rest: BookReader<'a>,

@@ -1,4 +1,6 @@
 // What finishing a job at a moment is worth (01, "Worth and wait circles"), and which of two groups is worth more for its time.
+#![tactic(auto)]
+
 ghost use Rattle.std.specs.Prelude.{◌≡◌, ◌-◌, pos, ◌+ℤ◌, ◌*ℤ◌};
 ghost use Rattle.curve.specs.Worth.{line_at};
 ghost use Rattle.curve.specs.Density.{denser_than};
@@ -6,7 +8,7 @@ ghost use Rattle.curve.specs.Density.{denser_than};
 pub mod fields; // fields.rt: a piece from its fields
 pub mod question; // question.rt: the worth of a curve where it stands
 
-#[derive(Drop)]
+#[derive(Clone, Copy)]
 pub struct Piece {
     pub start: u32,
     pub value: i32,
@@ -14,7 +16,7 @@ pub struct Piece {
 }
 
 // Pieces 0 .. count count, at most 8 of them; `end` is the termination.
-#[derive(Drop)]
+#[derive(Clone, Copy)]
 pub struct Curve {
     pub pieces: [Piece; 8],
     pub count: usize,
@@ -22,7 +24,7 @@ pub struct Curve {
 }
 
 // What finishing at a moment is worth. `None` is outside the curve, and not a worth of 0 (02, R-7).
-#[derive(Drop)]
+#[derive(Clone, Copy)]
 pub enum Worth {
     None,
     Of(i64),

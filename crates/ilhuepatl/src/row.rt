@@ -11,7 +11,7 @@ use gus::Part;
 use planner::Planned;
 
 // The answer's fields beside its parts. number: 0, or the refusal's, and then place is its place and the rest is empty.
-#[derive(Drop)]
+#[derive(Clone, Copy)]
 pub struct RowAnswer {
     pub number: u8,
     pub place: usize,
@@ -24,7 +24,7 @@ pub struct RowAnswer {
 }
 
 // The answer, and what goes into the row: parts 0 .. filled.
-#[derive(Drop)]
+#[derive(Clone, Copy)]
 struct RowPlan {
     answer: RowAnswer,
     parts: [Part; 96],
@@ -32,7 +32,7 @@ struct RowPlan {
 }
 
 // The answer, and a row of its own.
-#[derive(Drop)]
+#[derive(Clone, Copy)]
 pub struct RowLaid {
     pub answer: RowAnswer,
     pub parts: [Part; 96],

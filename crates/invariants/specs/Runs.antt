@@ -77,7 +77,7 @@ along-runs {js₀} {js} (goes {i = i} {k = k} {n = n} {ks = ks} b e stays real a
       real = λ x. rw a.0 (real x);
     } in
     let fr : Free (after js p) r = freed s g r (rw a.0 h) (rw a.0 e) in
-    next g a.0 (record { what = r; held = rw a.0 h; gone = fr }) (along-runs al ch s₀ (sound-after s g) (agree_after js₀ js p (k ∷ ks) ni a.1) fr)
+    next g a.0 (record { what = r; held = rw a.0 h; gone = fr }) (along-runs {js = after js p} al ch s₀ (sound-after s g) (agree_after js₀ js p (k ∷ ks) ni a.1) fr)
 
 -- the group of a job that is left
 pub group-runs : (pay : Pay) {way : Way} {js : List Job} (t i : ℕ) → Fair way → Ready js → Member js i → Runs js js (group_of way (view_of pay js) t i).parts

@@ -1,4 +1,6 @@
 // One job of the planner by value, and what a part does to it (01, "What a part does to the book"; VI.4).
+#![tactic(auto)]
+
 ghost use Rattle.std.specs.Prelude.{◌≡◌};
 ghost use Rattle.job.specs.Job.{no_request, granted, ran, rolled_back};
 
@@ -6,14 +8,14 @@ mod entry;
 mod times;
 
 // What a job holds of one resource. It stands at the resource's number; hold 0: not held.
-#[derive(Drop)]
+#[derive(Clone, Copy)]
 pub struct Held {
     pub hold: u16,
     pub rollback: u16,
 }
 
 // What a job waits for. Resource 255: nothing, and then both times are 0.
-#[derive(Drop)]
+#[derive(Clone, Copy)]
 pub struct Request {
     pub resource: u8,
     pub hold: u16,
@@ -21,7 +23,7 @@ pub struct Request {
 }
 
 // A job is left while its run time and its rollback time are both at least 1.
-#[derive(Drop)]
+#[derive(Clone, Copy)]
 pub struct Job {
     pub rolling: bool,
     pub run: u16,

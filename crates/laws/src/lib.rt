@@ -1,1 +1,2 @@
 // Laws alone, and no code: specs/ has them.
+#![tactic(auto)]

@@ -1,5 +1,7 @@
 // The listing program: reads one book from standard input and writes its listing to standard output (01, "The answer"); with the word
 // `--first` as its one argument, the text of the plan's first part (02, R-2). Both are proved text.
+#![tactic(auto)]
+
 ghost use Rattle.std.specs.Prelude.{◌≡◌, cond};
 ghost use Rattle.io.specs.Counts.{IsPrefixLen};
 ghost use Rattle.text.specs.Listing.{listing_outcome};

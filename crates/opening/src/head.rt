@@ -5,7 +5,7 @@ ghost use Rattle.opening.specs.Taken.{no_head, head_at, head_in};
 use crate::field::{entry_there, field_there};
 use job::Request;
 
-#[derive(Drop)]
+#[derive(Clone, Copy)]
 pub struct Head {
     pub rolling: bool,
     pub run: u16,

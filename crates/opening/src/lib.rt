@@ -1,4 +1,5 @@
 // From the bytes of an accepted book to its jobs. That these are the jobs of the book's records, and what holds of them, is in specs/.
+#![tactic(auto)]
 
 mod field; // field.rt: one field that is there, and one entry
 pub mod head; // head.rt: a record's first eleven bytes

@@ -32,6 +32,6 @@ module _ {array₀ ps : List Part} {place : ℕ} where
 pub appended-pushing : {n : ℕ} {z : Part} {whole rest a : List Part} {k : ℕ} (ps : List Part) → Pushing n z whole (ps ++ rest) a k → k + length ps ≤ n → Pushing n z whole rest (appended a k ps) (k + length ps)
 unfolding appended
 appended-pushing {k = k} [] inv h = let e : k + 0 ≡ k = omega arith in rw e inv
-appended-pushing {k = k} (p ∷ ps) inv h =
+appended-pushing {a = a} {k = k} (p ∷ ps) inv h =
     let e : k + suc (length ps) ≡ k + 1 + length ps = omega arith in
-    rw e (appended-pushing ps (push-next inv (omega arith)) (omega arith))
+    rw e (appended-pushing {a = set a k p} ps (push-next inv (omega arith)) (omega arith))

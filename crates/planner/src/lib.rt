@@ -1,4 +1,6 @@
 // The planner of 01: from a book's bytes to its victims and its plan, or its refusal.
+#![tactic(auto)]
+
 ghost use Rattle.std.specs.Prelude.{◌≡◌};
 
 use gus::{Course, Part};
@@ -27,7 +29,7 @@ pub mod first; // the first part of the plan, by one round
 
 // The planner's state: the job records by number; who holds each resource, a job's number or 255 for nobody; and of each job what a round asks,
 // whom it waits for among it, kept equal to what a fresh look through requests and holders gives (02, R-6).
-#[derive(Drop)]
+#[derive(Clone, Copy)]
 pub struct State {
     pub jobs: [Job; 32],
     pub holders: [u8; 32],
@@ -36,7 +38,7 @@ pub struct State {
 
 // The victims by the lowest member of their circle: places 0 .. count of list, and 0 in the others.
 // knot is the lowest job of a circle that has none, and 255 where each circle has one.
-#[derive(Drop)]
+#[derive(Clone, Copy)]
 pub struct Victims {
     pub list: [u8; 32],
     pub count: usize,
@@ -44,7 +46,7 @@ pub struct Victims {
 }
 
 // A group as numbers: parts 0 .. count, farthest holder first, and empty parts after them.
-#[derive(Drop)]
+#[derive(Clone, Copy)]
 pub struct GroupParts {
     pub parts: [Part; 32],
     pub count: usize,
@@ -52,7 +54,7 @@ pub struct GroupParts {
 }
 
 // A plan as numbers: parts 0 .. count, and empty parts after them; moment is its end.
-#[derive(Drop)]
+#[derive(Clone, Copy)]
 pub struct PlanParts {
     pub parts: [Part; 96],
     pub count: usize,
@@ -63,7 +65,7 @@ pub struct PlanParts {
 
 // number: 0, or the refusal's, and then place is its place and the rest is empty.
 // Victims 0 .. victimcount and parts 0 .. count are the answer's; the places after them are empty.
-#[derive(Drop)]
+#[derive(Clone, Copy)]
 pub struct Planned {
     pub number: u8,
     pub place: usize,
@@ -77,7 +79,7 @@ pub struct Planned {
 }
 
 // number: 0, or the refusal's, and then place is its place. some: whether the plan has a part; where it has none, part is empty.
-#[derive(Drop)]
+#[derive(Clone, Copy)]
 pub struct FirstPart {
     pub number: u8,
     pub place: usize,

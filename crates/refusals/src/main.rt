@@ -1,12 +1,14 @@
 // What the reader says of a table of books: 01's twelve cases, and a book for each way in which a book is refused.
 // The table is the file `books`, to be read beside 01; the file stdout was written from 01.
+#![tactic(auto)]
+
 ghost use Rattle.std.specs.Prelude.{◌≤◌, length};
 
 use book::judge::judge;
 use book::question::{find_record, record_part};
 use libc::STDOUT_FILENO;
 
-#[derive(Drop)]
+#[derive(Clone, Copy)]
 pub struct Bytes {
     pub room: [u8; 128],
     pub size: usize,

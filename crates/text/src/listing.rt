@@ -12,7 +12,7 @@ use planner::Planned;
 use planner::plan::plan;
 
 // number and place: 0 and 0, or ROOM at 0, and then nothing is written. length: how many bytes the text has.
-#[derive(Drop)]
+#[derive(Clone, Copy)]
 pub struct Listed {
     pub number: u8,
     pub place: usize,
