@@ -1,0 +1,11 @@
+use Prim.Native.Nat.{◌-◌}
+use Rattle.laws.specs.Each.{Doing}
+use Rattle.gus.specs.Victims.{circle_of}
+use Rattle.planner.specs.Sheet.{waits_in}
+use Rattle.planner.proofs.circles.circles.Given as goal
+
+abbrev pub invariant-loop-job : goal.invariant-loop-job
+invariant-loop-job l = Doing (λ i none. circle_of (waits_in l.sheet) i) 32 l.initial.found l.found l.job
+
+abbrev pub decreases-loop-job : goal.decreases-loop-job
+decreases-loop-job l = l.n - l.job

@@ -1,0 +1,25 @@
+-- `planner::round::round` meets its contract: the best group's parts where it is worth more than zero, and none otherwise.
+use Rattle.gus.specs.Choice.{by_density}
+use Rattle.planner.specs.Sheet.{seen}
+use Rattle.planner.specs.Bounds.{small-start}
+use Rattle.planner.specs.Round.{last-below, best-found, none_found}
+use Rattle.planner.proofs.round.round.Goals as goal
+
+pub group-requires : goal.group-requires
+group-requires c =
+    let a = c.args in
+    record {
+      seeing = c.requires.seeing;
+      job = last-below by_density (seen a.bytes.now a.sheet.now) a.t c.scan-b.ensures c.wide-last.ensures;
+      small = small-start;
+    }
+
+pub returns-then-above_zero : goal.returns-then-above_zero
+returns-then-above_zero c =
+    let a = c.args in
+    best-found by_density (seen a.bytes.now a.sheet.now) a.t c.scan-b.ensures c.above_zero.ensures c.if-above_zero.true c.wide-last.ensures c.group.ensures
+
+pub returns : goal.returns
+returns c =
+    let a = c.args in
+    none_found by_density (seen a.bytes.now a.sheet.now) a.t c.scan-b.ensures c.above_zero.ensures c.if-above_zero.false c.no_group.ensures
