@@ -1,4 +1,4 @@
-// The public calls: the plan of a book as bytes in a lent output, and the calls that C links.
+// The public calls: the plan of a book as bytes in a lent output, and the calls that C links, which the crate ilhuepatl_c exports.
 ghost use Rattle.std.specs.Prelude.{◌≡◌, ◌≤◌, nat_abs};
 ghost use Rattle.curve.specs.Worth.{amount};
 ghost use Rattle.book.specs.Question.{found_in};
@@ -44,8 +44,7 @@ fn word_of(number: u8, place: usize) -> u64
 }
 
 // plan_bytes for C: 0, or the refusal's number and, in the lower 32 bits, its place.
-#[unsafe(no_mangle)]
-pub extern "C" fn ilhuepatl_plan(book: &[u8], out: &mut [u8]) -> u64
+pub fn ilhuepatl_plan(book: &[u8], out: &mut [u8]) -> u64
     ensures { (result ≡ word (outcome_of book.now out.old).verdict) × (out.new ≡ (outcome_of book.now out.old).out) }
 {
     let v = plan_bytes(book, out);
@@ -53,8 +52,7 @@ pub extern "C" fn ilhuepatl_plan(book: &[u8], out: &mut [u8]) -> u64
 }
 
 // The record question for C: a refusal as above, or start and end of the record, 16 bits each; 0 where there is none.
-#[unsafe(no_mangle)]
-pub extern "C" fn ilhuepatl_record(bytes: &[u8], job: usize) -> u64
+pub fn ilhuepatl_record(bytes: &[u8], job: usize) -> u64
     ensures { result ≡ record_word (found_in bytes.now job) }
 {
     let f = book::question::find_record(bytes, job);
@@ -65,8 +63,7 @@ pub extern "C" fn ilhuepatl_record(bytes: &[u8], job: usize) -> u64
 }
 
 // The first part of the plan for C: a refusal as above, never ROOM; 0 where there is no part; else job, mode and time.
-#[unsafe(no_mangle)]
-pub extern "C" fn ilhuepatl_first(book: &[u8]) -> u64
+pub fn ilhuepatl_first(book: &[u8]) -> u64
     ensures { result ≡ first_word (first_in (planned_of book.now)) }
 {
     let f = planner::first::first_part(book);
@@ -92,8 +89,7 @@ fn worth_bits(worth: Worth) -> u64
 }
 
 // The worth of a curve for C: a refusal as above, CUT, RANGE or TAIL; else the worth, or none.
-#[unsafe(no_mangle)]
-pub extern "C" fn ilhuepatl_worth(curve: &[u8], t: u32) -> u64
+pub fn ilhuepatl_worth(curve: &[u8], t: u32) -> u64
     ensures { result ≡ word_of_worth (curve_worth curve.now t) }
 {
     let w = book::worth::worth_of_curve(curve, t);
