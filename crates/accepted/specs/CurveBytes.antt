@@ -1,23 +1,18 @@
 -- The bytes of one curve are accepted exactly when they keep a curve's rules and nothing follows; and then their worth is that of the curve that they are.
-use Rattle.std.specs.Prelude.{ℕ, ◌≤◌, ◌≡◌, refl, ◌↔◌, List, nat_abs, length}
+use Rattle.std.specs.Prelude.{ℕ, ◌≡◌, refl, List, length}
 use native.Mathlib.Omega.{arith}
-use Rattle.std.proofs.Common.{ap, ◌∙◌, lt-ltb}
+use Rattle.std.proofs.Common.{ap, lt-ltb}
 use Rattle.std.proofs.Math.Logic.{inl, inr}
 use Rattle.laws.specs.Search.{lt-or-le}
 use Rattle.cursor.specs.Field.{value_at, got_at}
-use Rattle.curve.specs.Worth.{worth_at, amount}
-use Rattle.curve.specs.Bound.{worth-within}
 use Rattle.curve.specs.Layout.{piece_place, curve_at, curve_end}
-use Rattle.curve.specs.Question.{worth_from, stands}
+use Rattle.curve.specs.Question.{worth_from}
 use Rattle.book.specs.declared.pieces.CurveRead.{CurveRead}
-use Rattle.book.specs.declared.worth.CurveWorth.{CurveWorth}
-use Rattle.book.specs.Format.{curve_read}
 use Rattle.book.specs.CurveWorth.{alone_read, curve_worth}
 use Rattle.accepted.specs.Fields.{onward}
-use Rattle.accepted.specs.Sticks.{unrefused-before, tail-sticks}
 use Rattle.accepted.specs.Layout.{Bytes}
-use Rattle.accepted.specs.Curves.{CurveKept, curve-got, curve-back, curve-good, curve-passes}
-use Rattle.accepted.specs.Exactly.{tail-got, tail-back}
+use Rattle.accepted.specs.Curves.{CurveKept, curve-got, curve-passes}
+use Rattle.accepted.specs.Exactly.{tail-got}
 
 -- a curve that stands alone
 pub record AloneKept (s : List ℕ) : Type 0 where
@@ -25,45 +20,21 @@ pub record AloneKept (s : List ℕ) : Type 0 where
   pub all : curve_end s 0 ≡ length s
 
 module _ (s : List ℕ) where
-  -- ---- from the reading to the rules
-  alone-back : (alone_read s).number ≡ 0 → AloneKept s
-  alone-back h =
-      let r = got_at 0 0 0 in
-      let read : (curve_read s r).reading.number ≡ 0 = unrefused-before (tail-sticks s (curve_read s r).reading) h in
-      let k = curve-back s r 0 (onward refl refl) read in
-      let z = ap (λ (x : CurveRead). x.reading) (curve-got s r 0 (onward refl refl) k) in
-      record { kept = curve-good s 0 k; all = tail-back s (got_at (piece_place 0 (value_at s 0 1)) 4 (curve_at s 0).end) (curve_end s 0) (onward refl refl) (rw z at h) }
-
   -- ---- and back
-  alone-got : Bytes s → AloneKept s → (alone_read s).number ≡ 0
+  pub alone-got : Bytes s → AloneKept s → (alone_read s).number ≡ 0
   alone-got b a =
       let r = got_at 0 0 0 in
       let z = ap (λ (x : CurveRead). x.reading) (curve-got s r 0 (onward refl refl) (curve-passes s 0 b a.kept)) in
       rw (z, tail-got s (got_at (piece_place 0 (value_at s 0 1)) 4 (curve_at s 0).end) (curve_end s 0) (onward refl refl) a.all) refl
 
   module _ (t : ℕ) where
-    unrefused : (curve_worth s t).number ≡ 0 → (alone_read s).number ≡ 0
+    pub unrefused : (curve_worth s t).number ≡ 0 → (alone_read s).number ≡ 0
     unfolding curve_worth
     unrefused h = elim (lt-or-le 0 (alone_read s).number) [
       | inl l ↦ rw (lt-ltb 0 (alone_read s).number l) at h
       | inr l ↦ omega arith
     ]
 
-    refused-not : (alone_read s).number ≡ 0 → curve_worth s t ≡ record { number = 0; place = 0; worth = worth_from s 0 t }
+    pub refused-not : (alone_read s).number ≡ 0 → curve_worth s t ≡ record { number = 0; place = 0; worth = worth_from s 0 t }
     unfolding curve_worth
     refused-not e = rw e
-
-    -- ACCEPTED EXACTLY
-    pub curve-exactly : Bytes s → ((curve_worth s t).number ≡ 0) ↔ AloneKept s
-    curve-exactly b = (λ h. alone-back (unrefused h), λ a. ap (λ (w : CurveWorth). w.number) (refused-not (alone-got b a)))
-
-    -- and the worth is that of the curve that the bytes are
-    pub worth-alone : (curve_worth s t).number ≡ 0 → (curve_worth s t).worth ≡ worth_at (curve_at s 0) t
-    worth-alone h =
-        let e = unrefused h in
-        let a = alone-back e in
-        ap (λ (w : CurveWorth). w.worth) (refused-not e) ∙ stands s 0 a.kept.good.allowed.few a.kept.fits t
-
-    -- which is at most a million away from 0
-    pub worth-alone-small : (curve_worth s t).number ≡ 0 → nat_abs (amount (curve_worth s t).worth) ≤ 1000000
-    worth-alone-small h = rw (worth-alone h) (worth-within (alone-back (unrefused h)).kept.good.allowed t)

@@ -1,16 +1,11 @@
 -- Where the curves of an accepted book stand: each job's curve, asked in the book's bytes, is worth what its record says.
 use Rattle.std.specs.Prelude.{ℕ, ◌+◌, ◌<◌, ◌≤◌, ◌≡◌, List, length}
-use Rattle.std.proofs.Common.{ap, ◌∙◌}
 use Rattle.cursor.specs.Field.{value_at}
-use Rattle.curve.specs.declared.Curve.{Curve}
-use Rattle.curve.specs.Worth.{worth_at}
 use Rattle.curve.specs.Layout.{curve_at, curve_end}
-use Rattle.curve.specs.Question.{worth_from, stands}
 use Rattle.book.specs.declared.Book.{Book}
-use Rattle.book.specs.Format.{book_of}
 use Rattle.accepted.specs.Layout.{entry_place, curve_place, jobs_at, job_place}
 use Rattle.accepted.specs.Kept.{BookKept}
-use Rattle.accepted.specs.Exactly.{BookGot, book-back}
+use Rattle.accepted.specs.Exactly.{BookGot}
 use Rattle.accepted.specs.Good.{record_of, record_is}
 use Rattle.accepted.specs.Spans.{span_of, span-is}
 
@@ -25,24 +20,8 @@ pub record CurveStands (s : List ℕ) (b : Book) (i : ℕ) : Type 0 where
   pub is : curve_at s (curve_place_of b i) ≡ (record_of b i).curve
 
 module _ (s : List ℕ) (b : Book) (k : BookKept s) (g : BookGot s b) (i : ℕ) (h : i < b.jobs) where
-  l : i < jobs_at s
+  pub l : i < jobs_at s
   l = rw g.jobs at h
 
-  place_is : curve_place_of b i ≡ curve_place s (job_place s i)
+  pub place_is : curve_place_of b i ≡ curve_place s (job_place s i)
   place_is = λ j. entry_place ((span-is s b k g i h j).start + 10) (record_is s b k g i l j).holds
-
-  there : CurveStands s b i
-  there = record {
-    few = rw place_is (k.each i l).good.curve.allowed.few;
-    inside = rw place_is (k.each i l).fits;
-    is = rw (place_is, record_is s b k g i l);
-  }
-
-pub curve-stands : (s : List ℕ) → (book_of s).number ≡ 0 → (i : ℕ) → i < (book_of s).jobs → CurveStands s (book_of s) i
-curve-stands s a i h = let z = book-back s a in there s (book_of s) z.0 z.1 i h
-
--- so the question asked in the book's bytes is answered with the record's own worth
-pub worth-stands : (s : List ℕ) → (book_of s).number ≡ 0 → (i : ℕ) → i < (book_of s).jobs → (t : ℕ) → worth_from s (curve_place_of (book_of s) i) t ≡ worth_at (record_of (book_of s) i).curve t
-worth-stands s a i h t =
-    let c = curve-stands s a i h in
-    stands s (curve_place_of (book_of s) i) c.few c.inside t ∙ ap (λ (x : Curve). worth_at x t) c.is

@@ -10,7 +10,6 @@ use Rattle.cursor.specs.Field.{value_at, judged, read_at, refused_at, got_at, fi
 use Rattle.book.specs.declared.pieces.PieceList.{PieceList}
 use Rattle.book.specs.Format.{start_read, signed_read, piece_read, piece_next, pieces_read, end_read, curve_read, tail_read}
 use Rattle.book.specs.CurveWorth.{alone_read, curve_worth}
-use Rattle.accepted.specs.Places.{Placed, Inside, got-inside, curve-inside, tail-inside}
 
 pub data CurveRefusal (number : ℕ) : Type 0 where
   cut : number ≡ CUT → CurveRefusal number
@@ -66,9 +65,6 @@ module _ (s : List ℕ) where
   unfolding curve_read end_read tail_read
   alone-told = rule_told _ TAIL _ _ (tail refl) (ruled-told s 4 _ 2147483647 _ _ (pieces-told (got_at 0 0 0) (record { number = λ l. absurd (omega arith) })))
 
-  alone-inside : Inside s (alone_read s)
-  alone-inside = tail-inside s _ (curve-inside s (got_at 0 0 0) (got-inside s 0 0 0 (omega arith)))
-
   module _ (t : ℕ) where
     -- THE NUMBER OF A REFUSAL
     pub curve-refusal : 0 < (curve_worth s t).number → CurveRefusal (curve_worth s t).number
@@ -76,12 +72,4 @@ module _ (s : List ℕ) where
     curve-refusal h = elim (lt-or-le 0 (alone_read s).number) [
       | inl l ↦ rw (lt-ltb 0 (alone_read s).number l) (alone-told.number l)
       | inr l ↦ absurd (omega (arith, rw (le-ltb 0 (alone_read s).number l) at h))
-    ]
-
-    -- THE PLACE OF A REFUSAL
-    pub curve-placed : Placed s (curve_worth s t).number (curve_worth s t).place
-    unfolding curve_worth
-    curve-placed = elim (lt-or-le 0 (alone_read s).number) [
-      | inl l ↦ rw (lt-ltb 0 (alone_read s).number l) (alone-inside.refused l)
-      | inr l ↦ rw (le-ltb 0 (alone_read s).number l) (record { within = omega arith; inside = λ x a b. absurd (omega arith) })
     ]

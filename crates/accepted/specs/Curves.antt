@@ -15,12 +15,11 @@ use Rattle.book.specs.declared.pieces.PieceList.{PieceList}
 use Rattle.cursor.specs.Refusal.{RANGE}
 use Rattle.cursor.specs.Field.{value_at, got_at}
 use Rattle.book.specs.Rules.{line_ok}
-use Rattle.book.specs.Format.{start_read, signed_read, piece_read, piece_next, pieces_read, end_read, curve_read}
-use Rattle.accepted.specs.Fields.{Onward, Passes, onward, field-got, field_back, ruled-got, ruled-back}
-use Rattle.accepted.specs.Sticks.{unrefused-before, signed-sticks, piece-next-sticks, end-sticks, loop-sticks, loop-sticks-all}
+use Rattle.book.specs.Format.{start_read, piece_read, piece_next, pieces_read, end_read, curve_read}
+use Rattle.accepted.specs.Fields.{Onward, Passes, onward, field-got, ruled-got, ruled-back}
 use Rattle.accepted.specs.Layout.{Bytes, two_bytes, four_bytes}
 use Rattle.accepted.specs.Rules.{AllowedCurve}
-use Rattle.accepted.specs.SignedFields.{signed-got, signed_back}
+use Rattle.accepted.specs.SignedFields.{signed-got}
 
 -- ---- one piece, after the piece `last`: its fields pass
 pub record PiecePasses (s : List ℕ) (low : ℕ) (last : Piece) (p : ℕ) : Type 0 where
@@ -33,11 +32,11 @@ pub record PiecePasses (s : List ℕ) (low : ℕ) (last : Piece) (p : ℕ) : Typ
   pub slope : nat_abs (signed_of 65535 (value_at s (p + 8) 2)) ≤ 1000
 
 module _ (s : List ℕ) (low : ℕ) (last : Piece) (r : Reading) (p : ℕ) (o : Onward r p) where
-  start-got : Passes s 4 low 2147483647 p → nat_abs (line_at last (value_at s p 4 - 1)) ≤ 1000000 → start_read s low last r ≡ got_at p 4 (value_at s p 4)
+  pub start-got : Passes s 4 low 2147483647 p → nat_abs (line_at last (value_at s p 4 - 1)) ≤ 1000000 → start_read s low last r ≡ got_at p 4 (value_at s p 4)
   unfolding start_read line_ok
   start-got k h = ruled-got s 4 low 2147483647 RANGE (λ v. line_ok last (v - 1)) r p o k (le-leb _ _ h)
 
-  start_back : (start_read s low last r).number ≡ 0 → Passes s 4 low 2147483647 p × (nat_abs (line_at last (value_at s p 4 - 1)) ≤ 1000000)
+  pub start_back : (start_read s low last r).number ≡ 0 → Passes s 4 low 2147483647 p × (nat_abs (line_at last (value_at s p 4 - 1)) ≤ 1000000)
   unfolding start_read line_ok
   start_back h = let k = ruled-back s 4 low 2147483647 RANGE (λ v. line_ok last (v - 1)) r p o (omega arith) h in (k.0, leb-true _ _ k.1)
 
@@ -48,20 +47,6 @@ module _ (s : List ℕ) (low : ℕ) (last : Piece) (r : Reading) (p : ℕ) (o : 
       let e2 = signed-got s 4 1000000 4294967295 (omega arith) (got_at p 4 (value_at s p 4)) (p + 4) (onward refl refl) (omega arith) k.value_wide k.value in
       let e3 = signed-got s 2 1000 65535 (omega arith) (got_at (p + 4) 4 (value_at s (p + 4) 4)) (p + 8) (onward refl (omega arith)) (omega arith) k.slope_wide k.slope in
       rw (e1, e2, e3)
-
-  piece_back : (piece_read s low last r).reading.number ≡ 0 → PiecePasses s low last p
-  unfolding piece_read
-  piece_back h =
-      let a = start_read s low last r in
-      let b = signed_read s 4 1000000 4294967295 a in
-      let hb : b.number ≡ 0 = unrefused-before (signed-sticks s 2 1000 65535 b) h in
-      let ha : a.number ≡ 0 = unrefused-before (signed-sticks s 4 1000000 4294967295 a) hb in
-      let k1 = start_back ha in
-      let e1 = start-got k1.0 k1.1 in
-      let k2 = signed_back s 4 1000000 4294967295 (omega arith) (got_at p 4 (value_at s p 4)) (p + 4) (onward refl refl) (rw e1 at hb) in
-      let e2 = signed-got s 4 1000000 4294967295 (omega arith) (got_at p 4 (value_at s p 4)) (p + 4) (onward refl refl) k2.0 k2.1 k2.2 in
-      let k3 = signed_back s 2 1000 65535 (omega arith) (got_at (p + 4) 4 (value_at s (p + 4) 4)) (p + 8) (onward refl (omega arith)) (rw (e1, e2) at h) in
-      record { start = k1.0; before = k1.1; fits = omega (arith, k3.0); value_wide = k2.1; value = k2.2; slope_wide = k3.1; slope = k3.2 }
 
 -- ---- the curve whose count stands at p: the piece before piece k, and the least start of piece k
 abbrev pub last_of : List ℕ → ℕ → ℕ → Piece
@@ -80,12 +65,12 @@ pub record CurvePasses (s : List ℕ) (p : ℕ) : Type 0 where
   pub last : nat_abs (line_at (last_of s p (value_at s p 1)) (value_at s (piece_place p (value_at s p 1)) 4)) ≤ 1000000
 
 -- its first m pieces are read
-record Pieced (s : List ℕ) (p m : ℕ) (c : PieceList) : Type 0 where
-  going : Onward c.reading (piece_place p m)
-  count : c.count ≡ value_at s p 1
-  pieces : c.pieces ≡ listed 8 no_piece (λ k. piece_at s (piece_place p k)) m
-  last : c.last ≡ last_of s p m
-  low : c.low ≡ low_of s p m
+pub record Pieced (s : List ℕ) (p m : ℕ) (c : PieceList) : Type 0 where
+  pub going : Onward c.reading (piece_place p m)
+  pub count : c.count ≡ value_at s p 1
+  pub pieces : c.pieces ≡ listed 8 no_piece (λ k. piece_at s (piece_place p k)) m
+  pub last : c.last ≡ last_of s p m
+  pub low : c.low ≡ low_of s p m
 
 module _ (s : List ℕ) (p : ℕ) where
   -- one more
@@ -101,40 +86,29 @@ module _ (s : List ℕ) (p : ℕ) where
         low = refl;
       })
 
-  abbrev list_start : PieceList
+  abbrev pub list_start : PieceList
   list_start = record { reading = got_at p 1 (value_at s p 1); count = value_at s p 1; pieces = replicate 8 no_piece; last = no_piece; low = 0 }
 
-  abbrev read : ℕ → PieceList
+  abbrev pub read : ℕ → PieceList
   read m = upto (piece_next s) m list_start
 
   pieced-first : Pieced s p 0 list_start
   pieced-first = record { going = onward refl (omega arith); count = refl; pieces = sym (listed-none 8 no_piece (λ k. piece_at s (piece_place p k))); last = refl; low = refl }
 
-  pieced : ((m : ℕ) → m < value_at s p 1 → Pieced s p m (read m) → PiecePasses s (low_of s p m) (last_of s p m) (piece_place p m)) → (m : ℕ) → m ≤ value_at s p 1 → Pieced s p m (read m)
+  pub pieced : ((m : ℕ) → m < value_at s p 1 → Pieced s p m (read m) → PiecePasses s (low_of s p m) (last_of s p m) (piece_place p m)) → (m : ℕ) → m ≤ value_at s p 1 → Pieced s p m (read m)
   pieced k = upto-each (Pieced s p) (piece_next s) (value_at s p 1) list_start pieced-first (λ m lt l. pieced-more m (read m) l (k m lt l))
 
-  -- a piece passes where the reading goes on after it
-  piece-passes : (read (value_at s p 1)).reading.number ≡ 0 → (m : ℕ) → m < value_at s p 1 → Pieced s p m (read m) → PiecePasses s (low_of s p m) (last_of s p m) (piece_place p m)
-  unfolding upto piece_next
-  piece-passes h m lt l =
-      let g = unrefused-before (loop-sticks (λ (x : PieceList). x.reading) (piece_next s) (piece-next-sticks s) list_start (suc m) (value_at s p 1) lt) h in
-      piece_back s (low_of s p m) (last_of s p m) (read m).reading (piece_place p m) l.going (rw (l.low, l.last) at g)
-
   module _ (r : Reading) (o : Onward r p) where
-    pieces-got : Passes s 1 1 8 p → pieces_read s r ≡ read (value_at s p 1)
+    pub pieces-got : Passes s 1 1 8 p → pieces_read s r ≡ read (value_at s p 1)
     unfolding pieces_read
     pieces-got k = rw (field-got s 1 1 8 RANGE r p o k)
-
-    pieces-back : (pieces_read s r).reading.number ≡ 0 → Passes s 1 1 8 p
-    unfolding pieces_read
-    pieces-back h = field_back s 1 1 8 RANGE r p o (omega arith) (unrefused-before (loop-sticks-all (λ (x : PieceList). x.reading) (piece_next s) (piece-next-sticks s) _ _) h)
 
 module _ (s : List ℕ) (last : Piece) (r : Reading) (p : ℕ) (o : Onward r p) where
   end-got : Passes s 4 last.start 2147483647 p → nat_abs (line_at last (value_at s p 4)) ≤ 1000000 → end_read s last r ≡ got_at p 4 (value_at s p 4)
   unfolding end_read line_ok
   end-got k h = ruled-got s 4 last.start 2147483647 RANGE (λ v. line_ok last v) r p o k (le-leb _ _ h)
 
-  end_back : (end_read s last r).number ≡ 0 → Passes s 4 last.start 2147483647 p × (nat_abs (line_at last (value_at s p 4)) ≤ 1000000)
+  pub end_back : (end_read s last r).number ≡ 0 → Passes s 4 last.start 2147483647 p × (nat_abs (line_at last (value_at s p 4)) ≤ 1000000)
   unfolding end_read line_ok
   end_back h = let k = ruled-back s 4 last.start 2147483647 RANGE (λ v. line_ok last v) r p o (omega arith) h in (k.0, leb-true _ _ k.1)
 
@@ -146,19 +120,6 @@ module _ (s : List ℕ) (r : Reading) (p : ℕ) (o : Onward r p) where
       let c = read s p (value_at s p 1) in
       let l = pieced s p (λ m lt x. k.each m lt) (value_at s p 1) (omega arith) in
       rw (pieces-got s p r o k.count, l.last, l.pieces, l.count, end-got s (last_of s p (value_at s p 1)) c.reading (piece_place p (value_at s p 1)) l.going k.end k.last)
-
-  pub curve-back : (curve_read s r).reading.number ≡ 0 → CurvePasses s p
-  unfolding curve_read
-  curve-back h =
-      let n = value_at s p 1 in
-      let c = pieces_read s r in
-      let hc : c.reading.number ≡ 0 = unrefused-before (end-sticks s c.last c.reading) h in
-      let k = pieces-back s p r o hc in
-      let e = pieces-got s p r o k in
-      let each = piece-passes s p (rw e at hc) in
-      let l = pieced s p each n (omega arith) in
-      let z = end_back s (last_of s p n) (read s p n).reading (piece_place p n) l.going (rw (e, l.last) at h) in
-      record { count = k; each = λ m lt. each m lt (pieced s p each m (omega arith)); end = z.0; last = z.1 }
 
 -- ---- and its fields pass exactly when the curve is allowed
 pub record CurveKept (s : List ℕ) (p : ℕ) : Type 0 where

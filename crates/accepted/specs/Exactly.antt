@@ -1,5 +1,5 @@
 -- A book is accepted exactly when it keeps its rules; "none is given otherwise".
-use Rattle.std.specs.Prelude.{ℕ, suc, ◌<◌, ◌≤◌, ◌≡◌, refl, ◌↔◌, cond, List, length, ltb, eqb}
+use Rattle.std.specs.Prelude.{ℕ, suc, ◌<◌, ◌≤◌, ◌≡◌, refl, cond, List, length, ltb, eqb}
 use Rattle.std.proofs.Common.{arith, ◌∙◌, inl, inr}
 use Rattle.std.proofs.Math.Path.{sym}
 use borrow.Author.Tests.{lt-ltb, eq-eqb, eqb-true}
@@ -14,23 +14,22 @@ use Rattle.cursor.specs.Refusal.{TAIL}
 use Rattle.cursor.specs.Field.{got_at}
 use Rattle.cursor.specs.Header.{header_of}
 use Rattle.book.specs.Format.{empty_record, empty_span, record_read, record_next, no_records, records_read, tail_read, accepted_book, refused_book, book_of}
-use Rattle.accepted.specs.Fields.{Onward, onward, rule-kept, rule-passed}
-use Rattle.accepted.specs.Sticks.{unrefused-before, record-next-sticks, records-sticks, tail-sticks, loop-sticks}
-use Rattle.accepted.specs.Layout.{Bytes, record_at, jobs_at, resources_at, now_at, job_place}
+use Rattle.accepted.specs.Fields.{Onward, rule-kept, rule-passed}
+use Rattle.accepted.specs.Layout.{record_at, jobs_at, resources_at, now_at, job_place}
 use Rattle.laws.specs.Holders.{Agree, agree-none, agree-job}
-use Rattle.accepted.specs.Kept.{HeaderKept, RecordKept, BookKept, held_of, holds_of}
-use Rattle.accepted.specs.Headers.{header-got, header-back}
-use Rattle.accepted.specs.JobRecords.{RecordGot, record-got, record-back}
+use Rattle.accepted.specs.Kept.{HeaderKept, held_of, holds_of}
+use Rattle.accepted.specs.Headers.{header-got}
+use Rattle.accepted.specs.JobRecords.{RecordGot}
 
 -- ---- the records: those of the first i jobs are read
 abbrev pub span_at : List ℕ → ℕ → Span
 span_at s i = record { start = job_place s i; end = job_place s (suc i) }
 
-record Recorded (s : List ℕ) (i : ℕ) (b : Records) : Type 0 where
-  going : Onward b.reading (job_place s i)
-  records : b.records ≡ listed 32 empty_record (λ j. record_at s (job_place s j)) i
-  spans : b.spans ≡ listed 32 empty_span (span_at s) i
-  agree : Agree (holds_of s) (held_of s) i 0 b.holders
+pub record Recorded (s : List ℕ) (i : ℕ) (b : Records) : Type 0 where
+  pub going : Onward b.reading (job_place s i)
+  pub records : b.records ≡ listed 32 empty_record (λ j. record_at s (job_place s j)) i
+  pub spans : b.spans ≡ listed 32 empty_span (span_at s) i
+  pub agree : Agree (holds_of s) (held_of s) i 0 b.holders
 
 module _ (s : List ℕ) (resources : ℕ) (few : resources ≤ 32) where
   -- one more
@@ -44,7 +43,7 @@ module _ (s : List ℕ) (resources : ℕ) (few : resources ≤ 32) where
   }
 
   module _ (jobs : ℕ) (top : jobs ≤ 32) (r : Reading) (o : Onward r 9) where
-    abbrev read : ℕ → Records
+    abbrev pub read : ℕ → Records
     read i = upto (record_next s resources) i (no_records r)
 
     recorded-first : Recorded s 0 (no_records r)
@@ -56,22 +55,8 @@ module _ (s : List ℕ) (resources : ℕ) (few : resources ≤ 32) where
       agree = agree-none (holds_of s) (held_of s);
     }
 
-    recorded : ((i : ℕ) → i < jobs → Recorded s i (read i) → RecordGot s i (record_read s i resources (read i).holders (read i).reading)) → (i : ℕ) → i ≤ jobs → Recorded s i (read i)
+    pub recorded : ((i : ℕ) → i < jobs → Recorded s i (read i) → RecordGot s i (record_read s i resources (read i).holders (read i).reading)) → (i : ℕ) → i ≤ jobs → Recorded s i (read i)
     recorded k = upto-each (Recorded s) (record_next s resources) jobs (no_records r) recorded-first (λ i lt l. recorded_more i (read i) l (k i lt l))
-
-    records-got : Bytes s → ((i : ℕ) → i < jobs → RecordKept s resources i) → Recorded s jobs (records_read s jobs resources r)
-    unfolding records_read
-    records-got b k = recorded (λ i lt l. record-got s i resources (omega arith) few (read i).holders l.agree (read i).reading l.going b (k i lt)) jobs (omega arith)
-
-    records-back : (records_read s jobs resources r).reading.number ≡ 0 → ((i : ℕ) → i < jobs → RecordKept s resources i) × Recorded s jobs (records_read s jobs resources r)
-    unfolding records_read upto record_next
-    records-back h = (λ i lt. (one i lt (all i (omega arith))).0, all jobs (omega arith))
-      where
-        one : (i : ℕ) → i < jobs → Recorded s i (read i) → RecordKept s resources i × RecordGot s i (record_read s i resources (read i).holders (read i).reading)
-        one i lt l = record-back s i resources (omega arith) few (read i).holders l.agree (read i).reading l.going (unrefused-before (loop-sticks (λ (x : Records). x.reading) (record_next s resources) (record-next-sticks s resources) (no_records r) (suc i) jobs lt) h)
-
-        all : (i : ℕ) → i ≤ jobs → Recorded s i (read i)
-        all = recorded (λ i lt l. (one i lt l).1)
 
 -- ---- the book: what an accepted one has
 pub record BookGot (s : List ℕ) (b : Book) : Type 0 where
@@ -100,34 +85,16 @@ unrefused-book n place b h = elim (lt-or-le 0 n) [
 ]
 
 module _ (s : List ℕ) where
-  abbrev whole : Records
+  abbrev pub whole : Records
   whole = records_read s (jobs_at s) (resources_at s) (got_at 5 4 (now_at s))
 
-  book-read : HeaderKept s → Recorded s (jobs_at s) whole → job_place s (jobs_at s) ≡ length s → BookGot s (book_of s)
+  pub book-read : HeaderKept s → Recorded s (jobs_at s) whole → job_place s (jobs_at s) ≡ length s → BookGot s (book_of s)
   unfolding book_of accepted_book
   book-read k l e =
       rw (header-got s k, tail-got s whole.reading (job_place s (jobs_at s)) l.going e, l.going.unrefused)
       (record { number = refl; now = refl; jobs = refl; resources = refl; records = l.records; spans = l.spans; agree = l.agree })
 
-  pub book-got : Bytes s → BookKept s → BookGot s (book_of s)
-  book-got b k = book-read k.header (records-got s (resources_at s) k.header.resources (jobs_at s) k.header.jobs (got_at 5 4 (now_at s)) (onward refl refl) b k.each) k.tail
-
   -- the tail is passed where the book is accepted
-  last-passed : (book_of s).number ≡ 0 → (tail_read s (records_read s (header_of s).jobs (header_of s).resources (header_of s).reading).reading).number ≡ 0
+  pub last-passed : (book_of s).number ≡ 0 → (tail_read s (records_read s (header_of s).jobs (header_of s).resources (header_of s).reading).reading).number ≡ 0
   unfolding book_of
   last-passed h = unrefused-book _ _ _ h
-
-  pub book-back : (book_of s).number ≡ 0 → BookKept s × BookGot s (book_of s)
-  book-back h =
-      let head = header_of s in
-      let h2 = last-passed h in
-      let h1 = unrefused-before (tail-sticks s (records_read s head.jobs head.resources head.reading).reading) h2 in
-      let k = header-back s (unrefused-before (records-sticks s head.jobs head.resources head.reading) h1) in
-      let e = header-got s k in
-      let l = records-back s (resources_at s) k.resources (jobs_at s) k.jobs (got_at 5 4 (now_at s)) (onward refl refl) (rw e at h1) in
-      let z = tail-back s whole.reading (job_place s (jobs_at s)) l.1.going (rw e at h2) in
-      (record { header = k; each = l.0; tail = z }, book-read k l.1 z)
-
--- ACCEPTED EXACTLY: a string of bytes is accepted if and only if it keeps every rule
-pub accepted-exactly : (s : List ℕ) → Bytes s → ((book_of s).number ≡ 0) ↔ BookKept s
-accepted-exactly s b = (λ h. (book-back s h).0, λ k. (book-got s b k).number)

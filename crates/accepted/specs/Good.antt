@@ -4,17 +4,17 @@ use Rattle.std.proofs.Common.{not-suc-le-zero, arith, sym, ap, ◌∙◌, inl, i
 use Rattle.laws.specs.Search.{lt-or-le}
 use Rattle.laws.specs.Listed.{listed_at, listed-past, length-listed}
 use Rattle.curve.specs.Worth.{worth_at, amount}
-use Rattle.curve.specs.Bound.{worth-within}
+use Rattle.curve.proofs.Bound.{worth-within}
 use Rattle.book.specs.declared.Entry.{Entry}
 use Rattle.book.specs.declared.Record.{Record}
 use Rattle.book.specs.declared.Book.{Book}
-use Rattle.book.specs.Format.{no_entry, empty_record, book_of}
+use Rattle.book.specs.Format.{no_entry, empty_record}
 use Rattle.accepted.specs.Layout.{record_at, held_at, jobs_at, resources_at, job_place}
 use Rattle.accepted.specs.Rules.{GoodRecord}
 use Rattle.laws.specs.Inside.{inside}
 use Rattle.laws.specs.Holders.{Before, earlier, beside, Named}
 use Rattle.accepted.specs.Kept.{BookKept, held_of, holds_of}
-use Rattle.accepted.specs.Exactly.{BookGot, book-back}
+use Rattle.accepted.specs.Exactly.{BookGot}
 
 abbrev pub record_of : Book → ℕ → Record
 record_of b i = get_or b.records i empty_record
@@ -96,7 +96,7 @@ module _ (s : List ℕ) (b : Book) (k : BookKept s) (g : BookGot s b) where
     ]
   ]
 
-  good_book : Good b
+  pub good_book : Good b
   good_book = record {
     now = rw g.now k.header.now;
     jobs = rw g.jobs k.header.jobs;
@@ -137,7 +137,3 @@ module _ (s : List ℕ) (b : Book) (k : BookKept s) (g : BookGot s b) where
       | inr n ↦ let z = namer r n in let x = is-stands z.0 z.1 z.2 z.3 in absurd (none z.0 z.1 x (resource-is z.0 z.1 x ∙ z.4))
     ];
   }
-
--- WHAT AN ACCEPTED BOOK IS
-pub accepted-good : (s : List ℕ) → (book_of s).number ≡ 0 → Good (book_of s)
-accepted-good s h = let z = book-back s h in good_book s (book_of s) z.0 z.1

@@ -12,23 +12,22 @@ use Rattle.laws.specs.Listed.{listed, listed-none, listed_next}
 use Rattle.cursor.specs.declared.Reading.{Reading}
 use Rattle.book.specs.declared.held.HeldList.{HeldList}
 use Rattle.cursor.specs.Refusal.{RANGE, TWICE}
-use Rattle.cursor.specs.Field.{value_at, got_at, field_of}
+use Rattle.cursor.specs.Field.{value_at, got_at}
 use Rattle.book.specs.Rules.{least_rollback}
-use Rattle.book.specs.Format.{no_entry, unheld_read, held_resource, entry_read, entry_next, held_read}
-use Rattle.accepted.specs.Fields.{Onward, Passes, onward, field-got, field_back, ruled_of, ruled-got, ruled-back, rule-kept, rule-passed}
-use Rattle.accepted.specs.Sticks.{unrefused-before, field-sticks, entry-next-sticks, loop-sticks, loop-sticks-all}
+use Rattle.book.specs.Format.{no_entry, unheld_read, held_resource, entry_read, entry_next}
+use Rattle.accepted.specs.Fields.{Onward, Passes, onward, field-got, ruled_of, ruled-got, ruled-back, rule-kept, rule-passed}
 use Rattle.accepted.specs.Layout.{entry_place, entry_at, held_at, job_place}
 use Rattle.accepted.specs.Rules.{GoodEntry}
 use Rattle.laws.specs.Inside.{inside}
-use Rattle.laws.specs.Holders.{Before, Agree, free-once, once-free, agree-entry}
+use Rattle.laws.specs.Holders.{Before, Agree, agree-entry}
 use Rattle.accepted.specs.Kept.{held_of, holds_of}
 
 -- ---- one entry: its fields pass,
-record EntryPasses (s : List ℕ) (resources run rollback p : ℕ) : Type 0 where
-  resource : Passes s 1 0 255 p
-  below : value_at s p 1 < resources
-  hold : Passes s 2 1 run (p + 1)
-  back : Passes s 2 (least_rollback rollback) rollback (p + 3)
+pub record EntryPasses (s : List ℕ) (resources run rollback p : ℕ) : Type 0 where
+  pub resource : Passes s 1 0 255 p
+  pub below : value_at s p 1 < resources
+  pub hold : Passes s 2 1 run (p + 1)
+  pub back : Passes s 2 (least_rollback rollback) rollback (p + 3)
 
 -- exactly when the entry is good,
 pub record EntryKept (s : List ℕ) (resources run rollback p : ℕ) : Type 0 where
@@ -36,7 +35,7 @@ pub record EntryKept (s : List ℕ) (resources run rollback p : ℕ) : Type 0 wh
   pub good : GoodEntry resources run rollback (entry_at s p)
 
 module _ (s : List ℕ) (resources run rollback p : ℕ) where
-  entry-passes : resources ≤ 32 → rollback ≤ 65535 → EntryKept s resources run rollback p → EntryPasses s resources run rollback p
+  pub entry-passes : resources ≤ 32 → rollback ≤ 65535 → EntryKept s resources run rollback p → EntryPasses s resources run rollback p
   unfolding least_rollback
   entry-passes few top k =
       record {
@@ -50,7 +49,7 @@ module _ (s : List ℕ) (resources run rollback p : ℕ) where
       go true e = omega (arith, k.good.back_never (eqb-true _ _ e))
       go false e = k.good.back_some
 
-  entry-good : rollback ≤ 65535 → EntryPasses s resources run rollback p → EntryKept s resources run rollback p
+  pub entry-good : rollback ≤ 65535 → EntryPasses s resources run rollback p → EntryKept s resources run rollback p
   unfolding least_rollback
   entry-good top k = record {
     fits = omega arith;
@@ -71,13 +70,13 @@ module _ (s : List ℕ) (resources run rollback p : ℕ) where
 
 -- and, where nobody holds its resource, exactly then it is read
 module _ (s : List ℕ) (resources : ℕ) (holders : List ℕ) (r : Reading) (p : ℕ) (o : Onward r p) where
-  resource-got : Passes s 1 0 255 p → value_at s p 1 < resources → get_or holders (value_at s p 1) 0 ≡ 255 → held_resource s resources holders r ≡ got_at p 1 (value_at s p 1)
+  pub resource-got : Passes s 1 0 255 p → value_at s p 1 < resources → get_or holders (value_at s p 1) 0 ≡ 255 → held_resource s resources holders r ≡ got_at p 1 (value_at s p 1)
   unfolding held_resource unheld_read
   resource-got k l f =
       rw (ruled-got s 1 0 255 RANGE (λ v. ltb v resources) r p o k (lt-ltb _ _ l))
       (rule-kept (eqb (get_or holders (value_at s p 1) 0) 255) TWICE p (got_at p 1 (value_at s p 1)) refl (eq-eqb _ _ f))
 
-  resource-back : (held_resource s resources holders r).number ≡ 0 → Passes s 1 0 255 p × (value_at s p 1 < resources) × (get_or holders (value_at s p 1) 0 ≡ 255)
+  pub resource-back : (held_resource s resources holders r).number ≡ 0 → Passes s 1 0 255 p × (value_at s p 1 < resources) × (get_or holders (value_at s p 1) 0 ≡ 255)
   unfolding held_resource unheld_read
   resource-back h =
       let a = ruled_of s 1 0 255 RANGE (λ v. ltb v resources) r in
@@ -93,20 +92,6 @@ module _ (s : List ℕ) (resources run rollback : ℕ) (holders : List ℕ) (r :
       let e2 = field-got s 2 1 run RANGE (got_at p 1 (value_at s p 1)) (p + 1) (onward refl refl) k.hold in
       let e3 = field-got s 2 (least_rollback rollback) rollback RANGE (got_at (p + 1) 2 (value_at s (p + 1) 2)) (p + 3) (onward refl (omega arith)) k.back in
       rw (e1, e2, e3)
-
-  entry-back : (entry_read s resources run rollback holders r).reading.number ≡ 0 → EntryPasses s resources run rollback p × (get_or holders (value_at s p 1) 0 ≡ 255)
-  unfolding entry_read
-  entry-back h =
-      let a = held_resource s resources holders r in
-      let b = field_of s 2 1 run RANGE a in
-      let hb : b.number ≡ 0 = unrefused-before (field-sticks s 2 (least_rollback rollback) rollback RANGE b) h in
-      let ha : a.number ≡ 0 = unrefused-before (field-sticks s 2 1 run RANGE a) hb in
-      let k1 = resource-back s resources holders r p o ha in
-      let e1 = resource-got s resources holders r p o k1.0 k1.1 k1.2 in
-      let k2 = field_back s 2 1 run RANGE (got_at p 1 (value_at s p 1)) (p + 1) (onward refl refl) (omega arith) (rw e1 at hb) in
-      let e2 = field-got s 2 1 run RANGE (got_at p 1 (value_at s p 1)) (p + 1) (onward refl refl) k2 in
-      let k3 = field_back s 2 (least_rollback rollback) rollback RANGE (got_at (p + 1) 2 (value_at s (p + 1) 2)) (p + 3) (onward refl (omega arith)) (omega arith) (rw (e1, e2) at h) in
-      (record { resource = k1.0; below = k1.1; hold = k2; back = k3 }, k1.2)
 
 -- ---- the list of job i
 pub record HeldKept (s : List ℕ) (i resources run rollback : ℕ) : Type 0 where
@@ -140,59 +125,22 @@ module _ (s : List ℕ) (i resources run rollback : ℕ) (job : i < 32) (few : r
 
   module _ (holders : List ℕ) (a : Agree (holds_of s) (held_of s) i 0 holders) where
     -- where the list begins
-    abbrev list_start : HeldList
+    abbrev pub list_start : HeldList
     list_start = record { reading = got_at (job_place s i + 10) 1 (holds_of s i); holds = holds_of s i; held = replicate 32 no_entry; holders = holders }
 
-    abbrev read : ℕ → HeldList
+    abbrev pub read : ℕ → HeldList
     read m = upto (entry_next s i resources run rollback) m list_start
 
     listed-first : Listed s i 0 list_start
     listed-first = record { going = onward refl (omega arith); holds = refl; held = sym (listed-none 32 no_entry (held_at s (job_place s i))); agree = a }
 
     -- what entry m is to be when the entries before it are read
-    abbrev Next : ℕ → Type 0
+    abbrev pub Next : ℕ → Type 0
     Next m = EntryPasses s resources run rollback (entry_place (job_place s i + 10) m) × (get_or (read m).holders (held_of s i m) 0 ≡ 255)
 
-    listed-all : ((m : ℕ) → m < holds_of s i → Listed s i m (read m) → Next m) → (m : ℕ) → m ≤ holds_of s i → Listed s i m (read m)
+    pub listed-all : ((m : ℕ) → m < holds_of s i → Listed s i m (read m) → Next m) → (m : ℕ) → m ≤ holds_of s i → Listed s i m (read m)
     listed-all k = upto-each (Listed s i) (entry_next s i resources run rollback) (holds_of s i) list_start listed-first (λ m h l. let z = k m h l in listed_more m (read m) l z.0 z.1)
 
     -- a resource of the book has a place among the holders, whatever stands past their end
-    same-holder : (m d e : ℕ) → Agree (holds_of s) (held_of s) i m (read m).holders → held_of s i m < resources → get_or (read m).holders (held_of s i m) d ≡ get_or (read m).holders (held_of s i m) e
+    pub same-holder : (m d e : ℕ) → Agree (holds_of s) (held_of s) i m (read m).holders → held_of s i m < resources → get_or (read m).holders (held_of s i m) d ≡ get_or (read m).holders (held_of s i m) e
     same-holder m d e g low = let size = g.size in inside (read m).holders (held_of s i m) d e (omega arith)
-
-    kept_next : HeldKept s i resources run rollback → (m : ℕ) → m < holds_of s i → Listed s i m (read m) → Next m
-    kept_next k m h l =
-        let z = entry-passes s resources run rollback (entry_place (job_place s i + 10) m) few top (k.each m h) in
-        (z, same-holder m 0 255 l.agree z.below ∙ once-free (holds_of s) (held_of s) i m (read m).holders l.agree (λ j n. k.once m j n h))
-
-    passed-next : (read (holds_of s i)).reading.number ≡ 0 → (m : ℕ) → m < holds_of s i → Listed s i m (read m) → Next m
-    unfolding upto entry_next
-    passed-next h m lt l =
-        entry-back s resources run rollback (read m).holders (read m).reading (entry_place (job_place s i + 10) m) l.going
-        (unrefused-before (loop-sticks (λ (x : HeldList). x.reading) (entry_next s i resources run rollback) (entry-next-sticks s i resources run rollback) list_start (suc m) (holds_of s i) lt) h)
-
-    passed-kept : Passes s 1 0 32 (job_place s i + 10) → (read (holds_of s i)).reading.number ≡ 0 → HeldKept s i resources run rollback
-    passed-kept c h =
-        let all = listed-all (passed-next h) in
-        record {
-          fits = c.fits;
-          few = c.most;
-          each = λ m lt. entry-good s resources run rollback (entry_place (job_place s i + 10) m) top (passed-next h m lt (all m (omega arith))).0;
-          once = λ m j n lt.
-              let l = all m (omega arith) in
-              let z = passed-next h m lt l in
-              free-once (holds_of s) (held_of s) i m (read m).holders l.agree job (same-holder m 255 0 l.agree z.0.below ∙ z.1) j n;
-        }
-
-    module _ (r : Reading) (o : Onward r (job_place s i + 10)) where
-      pub held-got : HeldKept s i resources run rollback → Listed s i (holds_of s i) (held_read s i resources run rollback holders r)
-      unfolding held_read
-      held-got k =
-          rw (field-got s 1 0 32 RANGE r (job_place s i + 10) o (record { fits = k.fits; least = omega arith; most = k.few }))
-          (listed-all (kept_next k) (holds_of s i) (omega arith))
-
-      pub held_back : (held_read s i resources run rollback holders r).reading.number ≡ 0 → HeldKept s i resources run rollback
-      unfolding held_read
-      held_back h =
-          let c = field_back s 1 0 32 RANGE r (job_place s i + 10) o (omega arith) (unrefused-before (loop-sticks-all (λ (x : HeldList). x.reading) (entry_next s i resources run rollback) (entry-next-sticks s i resources run rollback) _ _) h) in
-          passed-kept c (rw (field-got s 1 0 32 RANGE r (job_place s i + 10) o c) at h)

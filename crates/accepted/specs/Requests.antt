@@ -7,11 +7,10 @@ use Rattle.std.proofs.Math.Dec.{eqb}
 use borrow.Author.Tests.{lt-ltb, le-leb, ne_eqb, ltb-true, leb-true, eqb-true}
 use Rattle.cursor.specs.declared.Reading.{Reading}
 use Rattle.cursor.specs.Refusal.{RANGE}
-use Rattle.cursor.specs.Field.{value_at, got_at, field_of}
+use Rattle.cursor.specs.Field.{value_at, got_at}
 use Rattle.book.specs.Rules.{rollback_ok, request_ok, if_requested}
 use Rattle.book.specs.Format.{rollback_read, requested_resource, requested_rollback, request_read}
-use Rattle.accepted.specs.Fields.{Onward, Passes, onward, field-got, field_back, ruled-got, ruled-back}
-use Rattle.accepted.specs.Sticks.{unrefused-before, field-sticks, requested-rollback-sticks}
+use Rattle.accepted.specs.Fields.{Onward, Passes, onward, field-got, ruled-got, ruled-back}
 use Rattle.accepted.specs.Layout.{request_at}
 use Rattle.accepted.specs.Rules.{RollbackTime, some, never, rollback_some, rollback_most, GoodRequest, nothing, asks}
 
@@ -40,12 +39,12 @@ module _ (s : List ℕ) (r : Reading) (p : ℕ) (o : Onward r p) where
   rollback-back h = let k = ruled-back s 2 1 65535 RANGE rollback_ok r p o (omega arith) h in (k.0.fits, ok-rollback _ k.0.least k.1)
 
 -- ---- a request: its fields pass,
-record RequestPasses (s : List ℕ) (resources run p : ℕ) : Type 0 where
-  resource : Passes s 1 0 255 p
-  resource_ok : request_ok (value_at s p 1) resources ≡ true
-  hold : Passes s 2 (if_requested (value_at s p 1) 1) (if_requested (value_at s p 1) run) (p + 1)
-  rollback : Passes s 2 (if_requested (value_at s p 1) 1) (if_requested (value_at s p 1) 65535) (p + 3)
-  back_ok : rollback_ok (value_at s (p + 3) 2) ≡ true
+pub record RequestPasses (s : List ℕ) (resources run p : ℕ) : Type 0 where
+  pub resource : Passes s 1 0 255 p
+  pub resource_ok : request_ok (value_at s p 1) resources ≡ true
+  pub hold : Passes s 2 (if_requested (value_at s p 1) 1) (if_requested (value_at s p 1) run) (p + 1)
+  pub rollback : Passes s 2 (if_requested (value_at s p 1) 1) (if_requested (value_at s p 1) 65535) (p + 3)
+  pub back_ok : rollback_ok (value_at s (p + 3) 2) ≡ true
 
 -- exactly when the request is good,
 module _ (s : List ℕ) (resources run p : ℕ) where
@@ -71,7 +70,7 @@ module _ (s : List ℕ) (resources run p : ℕ) where
         back_ok = rollback-ok g.rollback;
       }
 
-  request-good : RequestPasses s resources run p → (p + 5 ≤ length s) × GoodRequest resources run (request_at s p)
+  pub request-good : RequestPasses s resources run p → (p + 5 ≤ length s) × GoodRequest resources run (request_at s p)
   unfolding request_ok if_requested
   request-good k = (omega arith, go (eqb (value_at s p 1) 255) refl)
     where
@@ -87,11 +86,11 @@ module _ (s : List ℕ) (resources run p : ℕ) where
 
 -- and exactly then it is read
 module _ (s : List ℕ) (resources run : ℕ) (r : Reading) (p : ℕ) (o : Onward r p) where
-  resource-got : Passes s 1 0 255 p → request_ok (value_at s p 1) resources ≡ true → requested_resource s resources r ≡ got_at p 1 (value_at s p 1)
+  pub resource-got : Passes s 1 0 255 p → request_ok (value_at s p 1) resources ≡ true → requested_resource s resources r ≡ got_at p 1 (value_at s p 1)
   unfolding requested_resource
   resource-got k e = ruled-got s 1 0 255 RANGE (λ v. request_ok v resources) r p o k e
 
-  resource-back : (requested_resource s resources r).number ≡ 0 → Passes s 1 0 255 p × (request_ok (value_at s p 1) resources ≡ true)
+  pub resource-back : (requested_resource s resources r).number ≡ 0 → Passes s 1 0 255 p × (request_ok (value_at s p 1) resources ≡ true)
   unfolding requested_resource
   resource-back h = ruled-back s 1 0 255 RANGE (λ v. request_ok v resources) r p o (omega arith) h
 
@@ -100,7 +99,7 @@ module _ (s : List ℕ) (resource : ℕ) (r : Reading) (p : ℕ) (o : Onward r p
   unfolding requested_rollback
   back-got k e = ruled-got s 2 _ _ RANGE rollback_ok r p o k e
 
-  back-back : (requested_rollback s resource r).number ≡ 0 → Passes s 2 (if_requested resource 1) (if_requested resource 65535) p × (rollback_ok (value_at s p 2) ≡ true)
+  pub back-back : (requested_rollback s resource r).number ≡ 0 → Passes s 2 (if_requested resource 1) (if_requested resource 65535) p × (rollback_ok (value_at s p 2) ≡ true)
   unfolding requested_rollback
   back-back h = ruled-back s 2 _ _ RANGE rollback_ok r p o (omega arith) h
 
@@ -113,22 +112,5 @@ module _ (s : List ℕ) (resources run : ℕ) (r : Reading) (p : ℕ) (o : Onwar
       let e3 = back-got s (value_at s p 1) (got_at (p + 1) 2 (value_at s (p + 1) 2)) (p + 3) (onward refl (omega arith)) k.rollback k.back_ok in
       rw (e1, e2, e3)
 
-  passes-back : (request_read s resources run r).reading.number ≡ 0 → RequestPasses s resources run p
-  unfolding request_read
-  passes-back h =
-      let a = requested_resource s resources r in
-      let b = field_of s 2 (if_requested a.value 1) (if_requested a.value run) RANGE a in
-      let hb : b.number ≡ 0 = unrefused-before (requested-rollback-sticks s a.value b) h in
-      let ha : a.number ≡ 0 = unrefused-before (field-sticks s 2 _ _ RANGE a) hb in
-      let k1 = resource-back s resources run r p o ha in
-      let e1 = resource-got s resources run r p o k1.0 k1.1 in
-      let k2 = field_back s 2 _ _ RANGE (got_at p 1 (value_at s p 1)) (p + 1) (onward refl refl) (omega arith) (rw e1 at hb) in
-      let e2 = field-got s 2 _ _ RANGE (got_at p 1 (value_at s p 1)) (p + 1) (onward refl refl) k2 in
-      let k3 = back-back s (value_at s p 1) (got_at (p + 1) 2 (value_at s (p + 1) 2)) (p + 3) (onward refl (omega arith)) (rw (e1, e2) at h) in
-      record { resource = k1.0; resource_ok = k1.1; hold = k2; rollback = k3.0; back_ok = k3.1 }
-
   pub request-got : resources ≤ 32 → p + 5 ≤ length s → GoodRequest resources run (request_at s p) → request_read s resources run r ≡ record { reading = got_at (p + 3) 2 (value_at s (p + 3) 2); request = request_at s p }
   request-got few f g = passes-got (request-passes s resources run p few f g)
-
-  pub request-back : (request_read s resources run r).reading.number ≡ 0 → (p + 5 ≤ length s) × GoodRequest resources run (request_at s p)
-  request-back h = request-good s resources run p (passes-back h)

@@ -5,13 +5,11 @@ use Rattle.std.proofs.Math.Path.{sym, ap}
 use Rattle.std.proofs.Common.{◌∙◌}
 use Rattle.book.specs.declared.Span.{Span}
 use Rattle.book.specs.declared.Book.{Book}
-use Rattle.book.specs.Format.{empty_span, book_of}
-use Rattle.book.specs.Judged.{starts_of}
-use Rattle.book.specs.Starts.{start_is}
+use Rattle.book.specs.Format.{empty_span}
 use Rattle.laws.specs.Listed.{listed_at}
 use Rattle.accepted.specs.Layout.{jobs_at, job_place}
 use Rattle.accepted.specs.Kept.{BookKept}
-use Rattle.accepted.specs.Exactly.{BookGot, span_at, book-back}
+use Rattle.accepted.specs.Exactly.{BookGot, span_at}
 
 abbrev pub span_of : Book → ℕ → Span
 span_of b i = get_or b.spans i empty_span
@@ -28,7 +26,7 @@ module _ (s : List ℕ) (b : Book) (k : BookKept s) (g : BookGot s b) where
   pub span-is : (i : ℕ) → i < b.jobs → span_of b i ≡ span_at s i
   span-is i h = rw g.spans (listed_at 32 empty_span (span_at s) (jobs_at s) i k.header.jobs (rw g.jobs at h))
 
-  laid : Laid s b
+  pub laid : Laid s b
   unfolding job_place
   laid = record {
     first = λ h. rw (span-is 0 h);
@@ -40,12 +38,3 @@ module _ (s : List ℕ) (b : Book) (k : BookKept s) (g : BookGot s b) where
         rw (span-is i l) (ap (job_place s) (e ∙ g.jobs) ∙ k.tail);
     none = λ e. sym k.tail ∙ ap (job_place s) (sym g.jobs ∙ e);
   }
-
-pub accepted-laid : (s : List ℕ) → (book_of s).number ≡ 0 → Laid s (book_of s)
-accepted-laid s h = let z = book-back s h in laid s (book_of s) z.0 z.1
-
--- so the places that the judge hands over are those of the records
-pub starts-at : (s : List ℕ) → (book_of s).number ≡ 0 → (i : ℕ) → i < (book_of s).jobs → get_or (starts_of (book_of s)) i 0 ≡ job_place s i
-starts-at s h i l =
-    let z = book-back s h in
-    sym (start_is s i l) ∙ ap (λ (x : Span). x.start) (span-is s (book_of s) z.0 z.1 i l)

@@ -1,18 +1,17 @@
 -- The question of a curve's worth by the place of its termination and how many pieces stand before it.
 use Prim.Native.Nat.{ℕ, zero, suc, ◌+◌, ◌-◌, ◌<◌, ◌≤◌}
-use Rattle.std.proofs.Common.{not-suc-le-zero, inl, inr, sym, ◌∙◌}
+use Rattle.std.proofs.Common.{not-suc-le-zero, sym, ◌∙◌}
 use native.Mathlib.Omega.{arith}
 use Rattle.std.specs.Prelude.{Bool, true, false, cond, List, ◌≡◌, ltb, leb, length}
 use Rattle.std.proofs.Math.Path.{refl}
 use borrow.Author.Tests.{lt-ltb, le-ltb, le-leb, lt-leb}
-use Rattle.laws.specs.Search.{lt-or-le}
 use Rattle.cursor.specs.Field.{value_at}
 use Rattle.curve.specs.declared.Piece.{Piece}
 use Rattle.curve.specs.declared.Worth.{Worth}
 use Rattle.curve.specs.declared.Worth.TheVariants.{None, Of}
 use Rattle.curve.specs.Worth.{line_at, worth_in}
 use Rattle.curve.specs.Layout.{piece_at, piece_place, curve_at, curve_end}
-use Rattle.curve.specs.Question.{worth_from, stands_after, stands-until, piece-stands}
+use Rattle.curve.specs.Question.{piece-stands}
 
 -- by the n pieces before a place: the last that starts at or before t; where the bytes begin before it, none
 unfoldable pub worth_back : List ℕ → ℕ → ℕ → ℕ → Worth
@@ -64,7 +63,7 @@ module _ (s : List ℕ) (t place : ℕ) where
   passed zero h l q = absurd (not-suc-le-zero h)
   passed (suc n) h l q = let e : suc n - 1 ≡ n = omega arith in rw (e, le-ltb place 10 l, lt-leb (piece_at s (place - 10)).start t q)
 
-  none : (n : ℕ) → n ≤ 0 → worth_back s place t n ≡ None
+  pub none : (n : ℕ) → n ≤ 0 → worth_back s place t n ≡ None
   unfolding worth_back
   none zero h = refl
   none (suc n) h = absurd (not-suc-le-zero h)
@@ -82,9 +81,6 @@ module _ {s : List ℕ} {t end n : ℕ} where
     pub backing-short : 0 < left → place < 10 → None ≡ worth_back s end t n
     backing-short h l = sym (short s t place left h l) ∙ b.same
 
-    pub backing-none : left ≤ 0 → None ≡ worth_back s end t n
-    backing-none h = sym (none s t place left h) ∙ b.same
-
     module _ {p : Piece} (h : 0 < left) (l : 10 ≤ place) (e : p ≡ piece_at s (place - 10)) where
       pub backing-served : p.start ≤ t → Of (line_at p t) ≡ worth_back s end t n
       backing-served q = rw e (sym (served s t place left h l (rw e at q)) ∙ b.same)
@@ -94,19 +90,9 @@ module _ {s : List ℕ} {t end n : ℕ} where
 
 module _ (s : List ℕ) (p : ℕ) (few : value_at s p 1 ≤ 8) (h : curve_end s p ≤ length s) (t : ℕ) where
   -- a curve's first k pieces, read back
-  back_is : (k : ℕ) → k ≤ value_at s p 1 → worth_back s (piece_place p k) t k ≡ worth_in (curve_at s p).pieces t k
+  pub back_is : (k : ℕ) → k ≤ value_at s p 1 → worth_back s (piece_place p k) t k ≡ worth_in (curve_at s p).pieces t k
   unfolding worth_back worth_in
   back_is zero l = refl
   back_is (suc k) l =
       let e : piece_place p (suc k) - 10 ≡ piece_place p k = omega arith in
       rw (le-ltb (piece_place p (suc k)) 10 (omega arith), e, piece-stands s p few k (omega arith), back_is k (omega arith))
-
-  -- for a curve that stands it is the same question
-  pub before-is : worth_before s (piece_place p (value_at s p 1)) (value_at s p 1) t ≡ worth_from s p t
-  before-is =
-      let n : ℕ = value_at s p 1 in
-      let end : ℕ = piece_place p n in
-      elim (lt-or-le (value_at s end 4) t) [
-        | inl l ↦ before-after s end n t h l ∙ sym (stands_after s p few h t l)
-        | inr l ↦ before-until s end n t h l ∙ back_is n (omega arith) ∙ sym (stands-until s p few h t l)
-      ]

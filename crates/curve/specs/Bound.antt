@@ -1,14 +1,11 @@
 -- The worth of a curve that the book's rules allow is in range at every moment.
-use Rattle.std.specs.Prelude.{cond, ◌≡◌, ltb, leb, ℤ, pos, negsuc, neg_ℤ, nat_abs, ◌+ℤ◌, ◌*ℤ◌, get_or}
-use Prim.Native.Nat.{ℕ, zero, suc, zero-le, ◌*◌, ◌-◌, ◌<◌, ◌≤◌, min}
-use Rattle.std.proofs.Common.{mul-le-mul_left, arith, lt-ltb, le-ltb, ltb-false, leb-false}
-use Rattle.laws.specs.Signed.{parts}
-use Rattle.cursor.specs.Outcome.{by-test}
+use Rattle.std.specs.Prelude.{cond, ltb, ℤ, pos, negsuc, neg_ℤ, nat_abs, ◌+ℤ◌, ◌*ℤ◌, get_or}
+use Prim.Native.Nat.{ℕ, suc, ◌*◌, ◌-◌, ◌<◌, ◌≤◌}
+use Rattle.std.proofs.Common.{mul-le-mul_left, arith}
+use Rattle.laws.proofs.Signed.{parts}
 use Rattle.curve.specs.declared.Piece.{Piece}
 use Rattle.curve.specs.declared.Curve.{Curve}
-use Rattle.curve.specs.declared.Worth.{Worth}
-use Rattle.curve.specs.declared.Worth.TheVariants.{None, Of}
-use Rattle.curve.specs.Worth.{no_piece, line_at, worth_in, worth_at, amount}
+use Rattle.curve.specs.Worth.{no_piece, line_at}
 
 -- "Curve values: -1,000,000 to 1,000,000"
 abbrev pub InRange : ℤ → Type 0
@@ -43,25 +40,5 @@ between v (pos a) d l h = rise v (a * d) (a * l) (mul-le-mul_left a h)
 between v (negsuc a) d l h = fall v (suc a * d) (suc a * l) (mul-le-mul_left (suc a) h)
 
 module _ {c : Curve} (a : Allowed c) (t : ℕ) where
-  line-within : (i : ℕ) → i < c.count → t ≤ end_of c i → InRange (line_at (piece_of c i) t)
+  pub line-within : (i : ℕ) → i < c.count → t ≤ end_of c i → InRange (line_at (piece_of c i) t)
   line-within i l h = between (piece_of c i).value (piece_of c i).slope (t - (piece_of c i).start) (end_of c i - (piece_of c i).start) (omega arith) (a.at_start i l) (a.at_end i l)
-
-  -- a piece that starts after t leaves it to what came before
-  either : (i : ℕ) → i < c.count → t ≤ end_of c i → (w : Worth) → (t < (piece_of c i).start → InRange (amount w)) → InRange (amount (cond (leb (piece_of c i).start t) (Of (line_at (piece_of c i) t)) w))
-  either i l h w g = by-test (leb (piece_of c i).start t) (Of (line_at (piece_of c i) t)) w (λ (x : Worth). InRange (amount x)) (λ y. line-within i l h) (λ n. g (leb-false (piece_of c i).start t n))
-
-  pieces-within : (i : ℕ) → i < c.count → t ≤ end_of c i → InRange (amount (worth_in c.pieces t (suc i)))
-  unfolding worth_in
-  pieces-within zero l h = either zero l h None (λ q. zero-le)
-  pieces-within (suc i) l h = either (suc i) l h (worth_in c.pieces t (suc i)) (λ q. pieces-within i (omega arith) (rw (lt-ltb (suc i) c.count l) (omega arith)))
-
-  -- the last piece ends at termination
-  all-within : t ≤ c.end → InRange (amount (worth_in c.pieces t (min c.count 8)))
-  all-within h =
-      let all : min c.count 8 ≡ suc (c.count - 1) = omega (arith, a.some, a.few) in
-      let last : c.count ≤ suc (c.count - 1) = omega arith in
-      rw all (pieces-within (c.count - 1) (omega (arith, a.some)) (rw (le-ltb (suc (c.count - 1)) c.count last) h))
-
-  pub worth-within : InRange (amount (worth_at c t))
-  unfolding worth_at
-  worth-within = by-test (ltb c.end t) None (worth_in c.pieces t (min c.count 8)) (λ (x : Worth). InRange (amount x)) (λ y. zero-le) (λ n. all-within (ltb-false c.end t n))

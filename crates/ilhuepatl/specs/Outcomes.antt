@@ -9,7 +9,7 @@ use Rattle.curve.specs.Worth.{amount}
 use Rattle.book.specs.declared.question.Found.{Found}
 use Rattle.book.specs.declared.worth.CurveWorth.{CurveWorth}
 use Rattle.book.specs.CurveWorth.{curve_worth}
-use Rattle.accepted.specs.CurveBytes.{worth-alone-small}
+use Rattle.accepted.proofs.CurveBytes.{worth-alone-small}
 use Rattle.planner.specs.declared.Planned.{Planned}
 use Rattle.planner.specs.declared.FirstPart.{FirstPart}
 use Rattle.planner.specs.Planned.{planned_of}

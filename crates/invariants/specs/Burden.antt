@@ -1,5 +1,5 @@
 -- What each part of a plan lowers: resources held, requests, and jobs left. So a plan has at most 96 parts.
-use Rattle.std.specs.Prelude.{ℕ, ◌+◌, ◌<◌, ◌≤◌, ◌≡◌, refl, List, length, ltb}
+use Rattle.std.specs.Prelude.{ℕ, ◌+◌, ◌<◌, ◌≤◌, ◌≡◌, refl, List, ltb}
 use Rattle.std.proofs.Math.Decide.{ℕ_discrete, dec_lt}
 use Rattle.std.proofs.Common.{arith, sym, ◌∙◌, lt-ltb, le-ltb}
 use Rattle.std.proofs.Math.Path.{ap}
@@ -9,12 +9,11 @@ use Rattle.job.specs.Job.{hold_of, left_in}
 use Rattle.job.specs.Fit.{held_below}
 use Rattle.job.specs.Part.{worked-request}
 use Rattle.gus.specs.declared.Part.{Part}
-use Rattle.gus.specs.State.{job_at, worked_by, after, after_all}
+use Rattle.gus.specs.State.{job_at, worked_by, after}
 use Rattle.gus.specs.Waits.{holder_of}
 use Rattle.invariants.specs.Sound.{Free, Sound, holder-left}
-use Rattle.invariants.specs.Proper.{Proper, Frees, holder-after, sound-after}
+use Rattle.invariants.specs.Proper.{Proper, Frees, holder-after}
 use Rattle.invariants.specs.Holders.{holder, holder-is, holder-free}
-use Rattle.invariants.specs.Runs.{Runs, last, next}
 use Rattle.invariants.specs.Tally.{bit, bit-most, tally, tally-after, tally-most}
 use Rattle.invariants.specs.Left.{count_left, count_most, count-after, count-last}
 use Rattle.laws.specs.Points.{sum_to, point, point-same, point-other, sum-le, sum-most, points-out, points-in}
@@ -67,19 +66,13 @@ module _ {js : List Job} {p : Part} (s : Sound js) (g : Proper js p) where
   unfolding wanted
   asks-after = omega (arith, tally-after ask_one s g, ask-point (job_at js p.job), ap bit (le-ltb (worked_by js p).request.resource 32 (worked-request p.rolling p.time (job_at js p.job))))
 
-  burden-next : Frees js p → burden (after js p) < burden js
+  pub burden-next : Frees js p → burden (after js p) < burden js
   unfolding burden
   burden-next u = omega (arith, count-after s g, asks-after, points-in 32 u.what (held_below (s.fit p.job) u.what u.held), sum-le 32 (held_bit (after js p)) (point u.what) (held_bit js) (point wanted) (freed-after u))
 
-  burden-last : p.time ≡ left_in p.rolling (job_at js p.job) → burden (after js p) < burden js
+  pub burden-last : p.time ≡ left_in p.rolling (job_at js p.job) → burden (after js p) < burden js
   unfolding burden
   burden-last l = omega (arith, count-last s g l, asks-after, sum-le 32 (held_bit (after js p)) (λ r. 0) (held_bit js) (point wanted) (λ r. omega (arith, held_after r)))
-
--- EACH PART OF A GROUP lowers the burden, which is at most 96
-pub runs-burden : {js₀ js : List Job} {ps : List Part} → Runs js₀ js ps → Sound js → length ps + burden (after_all js ps) ≤ burden js
-unfolding after_all
-runs-burden (last g e l) s = omega (arith, burden-last s g l)
-runs-burden (next g e u r) s = omega (arith, burden-next s g u, runs-burden r (sound-after s g))
 
 pub burden-most : {js : List Job} → Sound js → burden js ≤ 96
 unfolding burden

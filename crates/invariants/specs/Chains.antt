@@ -7,7 +7,8 @@ use mathlib.Core.List.{List, [], ◌∷◌}
 use Rattle.std.proofs.lemmas.Bool.{lt-leb}
 use Rattle.laws.specs.Search.{lt-or-le}
 use Rattle.laws.specs.Walk.{follow, follow-zero, follow-in, follow-last, step_in}
-use Rattle.laws.specs.Circle.{NoCircle, paths-end}
+use Rattle.laws.specs.Circle.{NoCircle}
+use Rattle.laws.proofs.Circle.{paths-end}
 use Rattle.job.specs.declared.Job.{Job}
 use Rattle.job.specs.Job.{hold_of}
 use Rattle.gus.specs.State.{job_at}

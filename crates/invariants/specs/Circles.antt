@@ -8,7 +8,8 @@ use Rattle.std.proofs.Math.Logic.{inl, inr}
 use borrow.Author.Tests.{lt-leb, le-leb, eq-eqb, ne_eqb}
 use Rattle.laws.specs.Search.{lt-or-le}
 use Rattle.laws.specs.Walk.{follow, follow-zero, follow-in, follow-out, follow-part}
-use Rattle.laws.specs.Circle.{OnCircle, Reaches, reaches-self, reaches-trans, reaches-back, circle-of-reached, circle-short}
+use Rattle.laws.specs.Circle.{OnCircle, Reaches, reaches-self, reaches-trans, reaches-back, circle-of-reached}
+use Rattle.laws.proofs.Circle.{circle-short}
 use Rattle.gus.specs.Waits.{nobody}
 use Rattle.gus.specs.Victims.{circle_from, circle_of}
 

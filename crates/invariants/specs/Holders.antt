@@ -1,15 +1,13 @@
 -- The holder found by search is the one who holds; and how one part changes the array of holders.
 use Rattle.std.specs.Prelude.{ℕ, zero, suc, ◌+◌, ◌<◌, ◌≤◌, ◌≡◌, refl, ◌⊎◌, cond, List, [], ◌∷◌, length, ltb, eqb}
-use Rattle.std.proofs.Math.Decide.{ℕ_discrete, dec_lt}
-use Rattle.std.proofs.Common.{arith, sym, ap, ◌∙◌, inl, inr, lt-ltb, le-ltb, eq-eqb, ne_eqb}
+use Rattle.std.proofs.Math.Decide.{dec_lt}
+use Rattle.std.proofs.Common.{arith, sym, ◌∙◌, inl, inr, lt-ltb, le-ltb}
 use Rattle.job.specs.declared.Job.{Job}
 use Rattle.job.specs.Job.{hold_of}
-use Rattle.gus.specs.declared.Part.{Part}
-use Rattle.gus.specs.State.{job_at, worked_by, after}
+use Rattle.gus.specs.State.{job_at}
 use Rattle.gus.specs.Waits.{nobody, holder_from, holder_of}
 use Rattle.invariants.specs.Vacant.{vacant-holds}
 use Rattle.invariants.specs.Sound.{Free, Sound}
-use Rattle.invariants.specs.Proper.{Proper, at_same, at_other, sound-after, free-after, only-holder}
 
 -- the search from number i on found w, or missed
 record Found (js : List Job) (r i w : ℕ) : Type 0 where
@@ -84,16 +82,3 @@ holder-same (j ∷ js) (j' ∷ js') r i z h = elim (dec_lt 0 (hold_of j r)) [
 -- that job where it has one; nobody where it had one and gave it up; else whoever held it
 abbrev pub holder_after : ℕ → ℕ → ℕ → ℕ
 holder_after job hold holder = cond (ltb 0 hold) job (cond (eqb holder job) nobody holder)
-
--- THE HOLDER OF A RESOURCE AFTER A PART
-pub holder-step : {js : List Job} {p : Part} → Sound js → Proper js p → (r : ℕ) → holder_of (after js p) r ≡ holder_after p.job (hold_of (worked_by js p) r) (holder_of js r)
-holder-step {js} {p} s g r = elim (dec_lt 0 (hold_of (worked_by js p) r)) [
-  | yes h ↦ rw (lt-ltb 0 (hold_of (worked_by js p) r) h) (holder-is (sound-after s g) p.job r (omega (arith, ap (λ (j : Job). hold_of j r) (at_same s g))))
-  | no h ↦ rw (le-ltb 0 (hold_of (worked_by js p) r) (omega arith)) (elim (holder js r) [
-    | inl x ↦ elim (ℕ_discrete (holder_of js r) p.job) [
-      | yes e ↦ rw (eq-eqb (holder_of js r) p.job e) (holder-free r (free-after s g r (omega arith) (only-holder s g r (rw e at x.1))))
-      | no ne ↦ rw (ne_eqb (holder_of js r) p.job ne) (holder-is (sound-after s g) (holder_of js r) r (omega (arith, x.1, ap (λ (j : Job). hold_of j r) (at_other js p (holder_of js r) ne))))
-    ]
-    | inr x ↦ rw (x.is, ne_eqb nobody p.job (λ e. absurd (omega (arith, g.alive.there)))) (holder-free r (free-after s g r (omega arith) (λ a ne. omega (arith, x.free.at a))))
-  ])
-]

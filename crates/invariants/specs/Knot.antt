@@ -1,31 +1,30 @@
 -- KNOT: the lowest job on any circle all of whose members are marked never, and nobody where there is no such circle.
 use Prim.Native.Nat.{ℕ, zero, suc, ◌<◌, ◌≤◌}
-use Rattle.std.proofs.Common.{not-suc-le-zero, arith, sym, ◌∙◌, true≢false, le-leb, eqb-true}
+use Rattle.std.proofs.Common.{not-suc-le-zero, arith, sym, le-leb, eqb-true}
 use Rattle.std.proofs.Math.Decide.{ℕ_discrete}
-use Rattle.std.specs.Prelude.{◌≡◌, ◌⊎◌, ◌↔◌, eqb}
+use Rattle.std.specs.Prelude.{◌≡◌, ◌⊎◌, eqb}
 use Rattle.std.proofs.Math.Path.{refl}
 use Rattle.std.proofs.Math.Logic.{inl, inr}
 use Rattle.std.proofs.Math.Bool.{Bool, true, false}
 use Rattle.std.proofs.lemmas.Bool.{lt-leb, eqb-false}
-use Rattle.laws.specs.Search.{lt-or-le}
-use Rattle.laws.specs.Circle.{OnCircle, Reaches, reaches-self, circle-of-reached}
+use Rattle.laws.specs.Circle.{OnCircle, Reaches}
 use Rattle.job.specs.Times.{never}
 use Rattle.gus.specs.Waits.{nobody}
 use Rattle.gus.specs.View.{View}
 use Rattle.gus.specs.Victims.{circle_of, victim_of, knot_to, knot_of}
-use Rattle.invariants.specs.Circles.{circle-met, circle-below, lowest-le, lowest-same, lowest-lowest, same-circle}
-use Rattle.invariants.specs.Victim.{Candidate, victim-is, victim-some}
+use Rattle.invariants.specs.Circles.{circle-met, circle-below, lowest-lowest, same-circle}
+use Rattle.invariants.specs.Victim.{victim-is}
 
 -- each circle whose lowest member is below n has a victim
-record Cleared (v : View) (t n : ℕ) : Type 0 where
-  has : (i : ℕ) → i < n → circle_of v.waits i ≡ i → (victim_of v t i).some ≡ true
+pub record Cleared (v : View) (t n : ℕ) : Type 0 where
+  pub has : (i : ℕ) → i < n → circle_of v.waits i ≡ i → (victim_of v t i).some ≡ true
 
 -- w is the lowest member of a circle without a victim, and each circle before has one
-record Stuck (v : View) (t n w : ℕ) : Type 0 where
-  below : w < n
-  lowest : circle_of v.waits w ≡ w
-  none : (victim_of v t w).some ≡ false
-  before : Cleared v t w
+pub record Stuck (v : View) (t n w : ℕ) : Type 0 where
+  pub below : w < n
+  pub lowest : circle_of v.waits w ≡ w
+  pub none : (victim_of v t w).some ≡ false
+  pub before : Cleared v t w
 
 module _ (v : View) (t : ℕ) where
   and_last : (n : ℕ) → Cleared v t n → (circle_of v.waits n ≡ n → (victim_of v t n).some ≡ true) → Cleared v t (suc n)
@@ -53,48 +52,17 @@ pub record Knotted (v : View) (i : ℕ) : Type 0 where
   pub all : (j : ℕ) → Reaches v.waits 32 i j → v.rollback j ≡ never
 
 module _ (v : View) (t : ℕ) where
-  knot : ((knot_of v t ≡ nobody) × Cleared v t 32) ⊎ Stuck v t 32 (knot_of v t)
+  pub knot : ((knot_of v t ≡ nobody) × Cleared v t 32) ⊎ Stuck v t 32 (knot_of v t)
   unfolding knot_of
   knot = looked v t 32 (omega arith)
 
-  stuck-on : {w : ℕ} → Stuck v t 32 w → OnCircle v.waits 32 w
+  pub stuck-on : {w : ℕ} → Stuck v t 32 w → OnCircle v.waits 32 w
   stuck-on {w} s = circle-met v.waits w (omega (arith, s.lowest, s.below))
 
-  stuck-knotted : {w : ℕ} → Stuck v t 32 w → Knotted v w
-  stuck-knotted {w} s = record { on = stuck-on s; all = all }
-    where
-      all : (j : ℕ) → Reaches v.waits 32 w j → v.rollback j ≡ never
-      all j r = elim (ℕ_discrete (v.rollback j) never) [
-        | yes e ↦ e
-        | no ne ↦
-            let c : Candidate v w j = record { member = sym (lowest-same (stuck-on s) r) ∙ s.lowest; real = ne } in
-            absurd (true≢false (sym (victim-some v t w j (circle-of-reached (stuck-on s) r).node c) ∙ s.none))
-      ]
-
   -- a circle of never jobs has no victim
-  knotted-none : {i : ℕ} → Knotted v i → (victim_of v t (circle_of v.waits i)).some ≡ true → ⊥
+  pub knotted-none : {i : ℕ} → Knotted v i → (victim_of v t (circle_of v.waits i)).some ≡ true → ⊥
   knotted-none {i} k e = let c = (victim-is v t (circle_of v.waits i) e).1 in c.real (k.all _ (same-circle k.on (sym c.member)))
 
   -- where there is no knot every circle has a victim
   pub knot-none : 32 ≤ knot_of v t → (i : ℕ) → OnCircle v.waits 32 i → (victim_of v t (circle_of v.waits i)).some ≡ true
   knot-none l i c = elim knot [ inl x ↦ x.1.has (circle_of v.waits i) (circle-below c) (lowest-lowest c) | inr x ↦ absurd (omega (arith, x.below)) ]
-
-  -- THE KNOT is the lowest job of those
-  pub knot-is : knot_of v t < 32 → Knotted v (knot_of v t) × ((i : ℕ) → Knotted v i → knot_of v t ≤ i)
-  knot-is l = elim knot [
-    | inl x ↦ absurd (omega (arith, x.0))
-    | inr x ↦ (
-      stuck-knotted x,
-      λ i k. elim (lt-or-le (circle_of v.waits i) (knot_of v t)) [
-        | inl h ↦ absurd (knotted-none k (x.before.has (circle_of v.waits i) h (lowest-lowest k.on)))
-        | inr h ↦ omega (arith, lowest-le k.on (reaches-self i))
-      ],
-    )
-  ]
-
-  -- there is one exactly if some job is on such a circle
-  pub knot-exactly : (knot_of v t < 32) ↔ ((i : ℕ) × Knotted v i)
-  knot-exactly = (
-    λ l. (knot_of v t, (knot-is l).0),
-    λ x. elim (lt-or-le (knot_of v t) 32) [ inl l ↦ l | inr l ↦ absurd (knotted-none x.1 (knot-none l x.0 x.1.on)) ],
-  )

@@ -9,10 +9,9 @@ use Rattle.job.specs.Run.{ran-run}
 use Rattle.job.specs.Rollback.{rolled_back-rollback}
 use Rattle.job.specs.Part.{ended-not-left}
 use Rattle.gus.specs.declared.Part.{Part}
-use Rattle.gus.specs.State.{job_at, worked_by, after, after_all}
+use Rattle.gus.specs.State.{job_at, worked_by, after}
 use Rattle.invariants.specs.Sound.{Sound, Member, member-left}
-use Rattle.invariants.specs.Proper.{Proper, sound-after}
-use Rattle.invariants.specs.Runs.{Runs, last, next}
+use Rattle.invariants.specs.Proper.{Proper}
 use Rattle.invariants.specs.Tally.{bit, bit-most, tally, tally-after, tally-one, tally-first, tally-most}
 
 abbrev left_one : Job → ℕ
@@ -57,8 +56,3 @@ module _ {js : List Job} {p : Part} (s : Sound js) (g : Proper js p) where
 
   pub count-last : p.time ≡ left_in p.rolling (job_at js p.job) → count_left (after js p) < count_left js
   count-last l = count-ended (rw l (all-ended p.rolling (job_at js p.job)))
-
-pub runs-count : {js₀ js : List Job} {ps : List Part} → Runs js₀ js ps → Sound js → count_left (after_all js ps) < count_left js
-unfolding after_all
-runs-count (last g e l) s = count-last s g l
-runs-count (next g e u r) s = omega (arith, runs-count r (sound-after s g), count-after s g)

@@ -13,9 +13,7 @@ use Rattle.gus.specs.declared.Course.{Course}
 use Rattle.gus.specs.declared.Best.{Best}
 use Rattle.gus.specs.Waits.{waits_for}
 use Rattle.gus.specs.View.{Pay, View, view_of}
-use Rattle.gus.specs.Victims.{circle_of, loss_of, lesser, offer, victims_of, knot_of, settled}
-use Rattle.invariants.specs.Sound.{Sound}
-use Rattle.invariants.specs.CircleModes.{circle-normal}
+use Rattle.gus.specs.Victims.{circle_of, loss_of, lesser, offer, victims_of, knot_of}
 use Rattle.invariants.specs.SameVictims.{AlikeForVictims, same-victims, same-knot}
 
 -- "worth at now + run time left, divided by run time left; for a job in rollback, 0"
@@ -54,10 +52,6 @@ module _ (v : View) (t : ℕ) where
 -- the line says nothing of any member of a circle; a record, so that pay and js are read off its type
 pub record LossesAgree (pay : Pay) (js : List Job) : Type 0 where
   pub same : (t i : ℕ) → OnCircle (waits_for js) 32 i → loss_by_mode (view_of pay js) t i ≡ loss_of (view_of pay js) t i
-
-pub losses-agree : {js : List Job} → Sound js → (is : List ℕ) (pay : Pay) → LossesAgree pay (settled js is)
-unfolding loss_by_mode
-losses-agree s is pay = record { same = λ t i c. rw (circle-normal s is i c, loss_by_mode) }
 
 module _ {pay : Pay} {js : List Job} (agree : LossesAgree pay js) (t : ℕ) where
   alike : AlikeForVictims (view_by_mode (view_of pay js)) (view_of pay js) t

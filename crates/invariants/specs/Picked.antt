@@ -1,9 +1,8 @@
 -- The best group: of the candidates none is denser, and each before it is less dense. Where it is not worth more than zero, none is.
-use Rattle.std.specs.Prelude.{ℕ, ◌<◌, ◌≤◌, ◌≡◌, ◌⊎◌, Bool, true, false, List}
+use Rattle.std.specs.Prelude.{ℕ, ◌≤◌, ◌≡◌, ◌⊎◌, Bool, true, false, List}
 use Rattle.std.proofs.Common.{arith, sym, ◌∙◌, inl, inr}
 use Rattle.std.proofs.Math.Path.{refl}
 use Rattle.std.proofs.lemmas.Bool.{false≢true}
-use Rattle.curve.specs.Density.{denser-some}
 use Rattle.job.specs.declared.Job.{Job}
 use Rattle.job.specs.Job.{is_left}
 use Rattle.gus.specs.declared.Part.{Part}
@@ -14,20 +13,17 @@ use Rattle.gus.specs.View.{Pay, view_of}
 use Rattle.gus.specs.Course.{denser}
 use Rattle.gus.specs.Choice.{Way}
 use Rattle.gus.specs.Group.{group_of}
-use Rattle.gus.specs.Round.{better, offered, consider, best_of, worthwhile}
+use Rattle.gus.specs.Round.{better, offered, consider, best_of}
 use Rattle.invariants.specs.Sound.{Sound, Member, left-member, member-left}
-use Rattle.invariants.specs.Waiting.{Ready}
-use Rattle.invariants.specs.Fair.{Fair}
-use Rattle.invariants.specs.Runs.{Runs, last, next, group-runs}
+use Rattle.invariants.specs.Runs.{Runs, last, next}
 use Rattle.invariants.specs.Replay.{lasts}
-use Rattle.invariants.specs.Paid.{group-lasts}
 use Rattle.invariants.specs.Denser.{not_both, denser-over}
-use Rattle.invariants.specs.Winner.{taken, Order, Timed, Wins, Won, won}
+use Rattle.invariants.specs.Winner.{taken, Order, Won, won}
 
 pub denser-order : Order denser
 denser-order = record { not_both = not_both; above = denser-over }
 
-runs-some : {js₀ js : List Job} {ps : List Part} → Runs js₀ js ps → 1 ≤ lasts ps
+pub runs-some : {js₀ js : List Job} {ps : List Part} → Runs js₀ js ps → 1 ≤ lasts ps
 unfolding lasts
 runs-some (last g e l) = omega (arith, g.some)
 runs-some (next g e u r) = omega (arith, g.some)
@@ -55,26 +51,3 @@ picked way pay {js} t s = won denser (Candidate way pay js t) (course_at way pay
         go true e true q = inl (record { member = left-member s n e; inside = q }, refl)
         go true e false q = inr (λ m. false≢true (sym q ∙ m.inside), refl)
         go false e y q = inr (λ m. false≢true (sym e ∙ member-left m.member), refl)
-
-module _ (pay : Pay) {way : Way} {js : List Job} (t : ℕ) (f : Fair way) (y : Ready js) where
-  -- a group takes time
-  some-time : (i : ℕ) → Member js i → 0 < (course_at way pay js t i).time
-  some-time i m = omega (arith, group-lasts pay t i f y m, runs-some (group-runs pay t i f y m))
-
-  pub groups-timed : Timed denser (Candidate way pay js t) (course_at way pay js t)
-  groups-timed = record { some = λ i m. some-time i m.member }
-
-  -- where the best is not worth more than zero, no candidate is
-  pub none_worthwhile : {i : ℕ} → Candidate way pay js t i → Wins denser (Candidate way pay js t) (course_at way pay js t) 32 i → worthwhile (course_at way pay js t i) ≡ false → (k : ℕ) → Candidate way pay js t k → worthwhile (course_at way pay js t k) ≡ false
-  unfolding denser
-  none_worthwhile {i} mi w q k m = go (worthwhile a) refl
-    where
-      a : Course
-      a = course_at way pay js t k
-
-      b : Course
-      b = course_at way pay js t i
-
-      go : (x : Bool) → worthwhile a ≡ x → worthwhile a ≡ false
-      go false e = e
-      go true e = absurd (false≢true (sym (w.unbeaten k m.member.there m) ∙ denser-some a.gain a.time b.gain b.time (some-time i mi.member) e q))

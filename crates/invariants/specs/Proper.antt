@@ -6,7 +6,8 @@ use Rattle.job.specs.declared.Job.{Job}
 use Rattle.job.specs.Times.{never}
 use Rattle.job.specs.Job.{hold_of, worked, left_in, span_in}
 use Rattle.job.specs.Fit.{Fit}
-use Rattle.job.specs.Part.{fit-worked, worked-all, worked-span, worked-new, worked-request}
+use Rattle.job.specs.Part.{worked-request}
+use Rattle.job.proofs.Part.{fit-worked, worked-all, worked-span, worked-new}
 use Rattle.gus.specs.declared.Part.{Part}
 use Rattle.gus.specs.State.{vacant, job_at, worked_by, after}
 use Rattle.invariants.specs.Sound.{Free, Sound, Member}

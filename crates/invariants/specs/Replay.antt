@@ -12,7 +12,6 @@ use Rattle.gus.specs.declared.Part.{Part}
 use Rattle.gus.specs.State.{worked_by, after, after_all}
 use Rattle.gus.specs.View.{Pay}
 use Rattle.invariants.specs.Proper.{Proper}
-use Rattle.invariants.specs.Waiting.{Ready, ready-after}
 use Rattle.invariants.specs.Runs.{Runs, last, next}
 
 pub data Replay : List Job → List Part → Type 0 where
@@ -27,11 +26,6 @@ pub replay-append : {js : List Job} {ps qs : List Part} → Replay js ps → Rep
 unfolding after_all
 replay-append over q = q
 replay-append (then g r) q = then g (replay-append r q)
-
-pub replay-ready : {js : List Job} {ps : List Part} → Replay js ps → Ready js → Ready (after_all js ps)
-unfolding after_all
-replay-ready over y = y
-replay-ready (then g r) y = replay-ready r (ready-after y g)
 
 pub after-append : (js : List Job) (ps qs : List Part) → after_all js (ps ++ qs) ≡ after_all (after_all js ps) qs
 unfolding after_all

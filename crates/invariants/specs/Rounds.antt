@@ -1,27 +1,20 @@
 -- DEMAND 3 of the rounds, for any fair way of choosing a mode.
-use Prim.Native.Nat.{ℕ, zero, suc, ◌+◌, ◌≤◌}
-use Rattle.std.proofs.Common.{arith, length-append}
-use Rattle.std.specs.Prelude.{◌≡◌, refl, List, length, pos}
-use Rattle.std.proofs.Math.Bool.{Bool, true, false}
-use Rattle.laws.specs.Signed.{dn, tight, lt_z-true, dn-add}
+use Prim.Native.Nat.{ℕ, ◌+◌, ◌≤◌}
+use Rattle.std.proofs.Common.{arith}
+use Rattle.std.specs.Prelude.{◌≡◌, refl, List, length}
+use Rattle.std.proofs.Math.Bool.{true, false}
+use Rattle.laws.specs.Signed.{dn}
 use Rattle.job.specs.declared.Job.{Job}
-use Rattle.gus.specs.declared.Best.{Best}
 use Rattle.gus.specs.State.{after_all}
 use Rattle.gus.specs.View.{Pay, view_of}
-use Rattle.gus.specs.Course.{denser}
 use Rattle.gus.specs.Choice.{Way}
 use Rattle.gus.specs.Group.{Group, group_of}
-use Rattle.gus.specs.Round.{best_of, Plan, stop, joined, worthwhile, rounds}
-use Rattle.invariants.specs.Sound.{Member}
-use Rattle.invariants.specs.Waiting.{Ready}
+use Rattle.gus.specs.Round.{Plan, stop, worthwhile, rounds}
 use Rattle.invariants.specs.Fair.{Fair}
-use Rattle.invariants.specs.Runs.{Runs, group-runs}
-use Rattle.invariants.specs.Replay.{Replay, over, runs-replay, replay-append, replay-ready, after-append, lasts, lasts-append, paid, paid-append, all_inside, inside-append}
-use Rattle.invariants.specs.Paid.{group-paid, group-inside, group-lasts}
-use Rattle.invariants.specs.Left.{count_left, count-some, runs-count}
-use Rattle.invariants.specs.Burden.{burden, runs-burden}
-use Rattle.invariants.specs.Winner.{Won, no_one, some_one}
-use Rattle.invariants.specs.Picked.{course_at, Candidate, picked, groups-timed, none_worthwhile}
+use Rattle.invariants.specs.Replay.{Replay, over, lasts, paid, all_inside}
+use Rattle.invariants.specs.Left.{count_left}
+use Rattle.invariants.specs.Burden.{burden}
+use Rattle.invariants.specs.Picked.{course_at, Candidate}
 
 -- of a plan from the jobs js at the moment t
 pub record Replayed (way : Way) (pay : Pay) (js : List Job) (t : ℕ) (plan : Plan) : Type 0 where
@@ -40,53 +33,17 @@ pub record Replayed (way : Way) (pay : Pay) (js : List Job) (t : ℕ) (plan : Pl
   -- "no job left has a candidate group worth more than zero"
   pub rest : (i : ℕ) → Candidate way pay (after_all js plan.parts) plan.end i → worthwhile (course_at way pay (after_all js plan.parts) plan.end i) ≡ false
 
-stopped : (way : Way) (pay : Pay) (js : List Job) (t : ℕ) → ((i : ℕ) → Candidate way pay js t i → worthwhile (course_at way pay js t i) ≡ false) → Replayed way pay js t (stop t)
+pub stopped : (way : Way) (pay : Pay) (js : List Job) (t : ℕ) → ((i : ℕ) → Candidate way pay js t i → worthwhile (course_at way pay js t i) ≡ false) → Replayed way pay js t (stop t)
 unfolding after_all lasts paid all_inside
 stopped way pay js t h = record { replay = over; total = refl; inside = refl; never_less = refl; end = omega arith; few = omega arith; short = omega arith; rest = h }
 
 module _ (pay : Pay) {way : Way} (f : Fair way) where
-  abbrev group_at : List Job → ℕ → ℕ → Group
+  abbrev pub group_at : List Job → ℕ → ℕ → Group
   group_at js t i = group_of way (view_of pay js) t i
 
   -- a plan from where the group of i has ended
-  abbrev After : List Job → ℕ → ℕ → Plan → Type 0
+  abbrev pub After : List Job → ℕ → ℕ → Plan → Type 0
   After js t i plan = Replayed way pay (after_all js (group_at js t i).parts) (t + (group_at js t i).course.time) plan
 
-  abbrev rest_at : ℕ → List Job → ℕ → ℕ → Plan
+  abbrev pub rest_at : ℕ → List Job → ℕ → ℕ → Plan
   rest_at n js t i = rounds n way pay (after_all js (group_at js t i).parts) (t + (group_at js t i).course.time)
-
-  -- a group worth more than zero, and what is replayed after it
-  join : (js : List Job) (t i : ℕ) → Ready js → Candidate way pay js t i → worthwhile (group_at js t i).course ≡ true → (r : Plan) → After js t i r → Replayed way pay js t (joined (group_at js t i) r)
-  join js t i y m w r d =
-      let left : Member js i = m.member in
-      let g : Group = group_at js t i in
-      let runs : Runs js js g.parts = group-runs pay t i f y left in
-      let time : g.course.time ≡ lasts g.parts = group-lasts pay t i f y left in
-      record {
-        replay = replay-append (runs-replay runs) d.replay;
-        total = rw (paid-append pay js t g.parts r.parts, ← time, d.total, group-paid pay t i f y left) refl;
-        inside = rw (inside-append pay js t g.parts r.parts, ← time, d.inside, ← group-inside pay t i f y left, m.inside);
-        never_less = omega (arith, dn-add g.course.gain r.total, lt_z-true (pos 0) g.course.gain w, tight g.course.gain, d.never_less);
-        end = omega (arith, d.end, lasts-append g.parts r.parts);
-        few = omega (arith, d.few, runs-count runs y.sound);
-        short = rw (after-append js g.parts r.parts) (omega (arith, d.short, length-append g.parts r.parts, runs-burden runs y.sound));
-        rest = rw (after-append js g.parts r.parts) d.rest;
-      }
-
-  pub replayed : (n : ℕ) (js : List Job) (t : ℕ) → count_left js ≤ n → Ready js → Replayed way pay js t (rounds n way pay js t)
-  unfolding rounds
-  replayed zero js t l y = stopped way pay js t (λ i m. absurd (omega (arith, count-some y.sound m.member)))
-  replayed (suc n) js t l y =
-      go (best_of way (view_of pay js) t) (picked way pay t y.sound)
-      (λ i m. let runs = group-runs pay t i f y m in replayed n (after_all js (group_at js t i).parts) (t + (group_at js t i).course.time) (omega (arith, runs-count runs y.sound)) (replay-ready (runs-replay runs) y))
-    where
-      pick : ℕ → Bool → Plan
-      pick i b = elim b [ true ↦ joined (group_at js t i) (rest_at n js t i) | false ↦ stop t ]
-
-      go : (b : Best) → Won denser (Candidate way pay js t) (course_at way pay js t) 32 b → ((i : ℕ) → Member js i → After js t i (rest_at n js t i)) → Replayed way pay js t (pick b.last (worthwhile b.course))
-      go b (no_one h) ih = stopped way pay js t (λ i m. absurd (h i m.member.there m))
-      go b (some_one {c = c} i l' m e x) ih = by-worth (worthwhile c) refl
-        where
-          by-worth : (b : Bool) → worthwhile c ≡ b → Replayed way pay js t (pick i b)
-          by-worth true w = join js t i y m (rw e at w) (rest_at n js t i) (ih i m.member)
-          by-worth false w = stopped way pay js t (none_worthwhile pay t f y m (x (groups-timed pay t f y)) (rw e at w))

@@ -4,7 +4,7 @@ use Rattle.std.proofs.Common.{suc-mul, inl, inr, eqb-true}
 use Rattle.std.proofs.Math.Nat.{mul-le-mul_right}
 use native.Mathlib.Omega.{arith}
 use Rattle.std.proofs.Math.Path.{refl}
-use Rattle.laws.specs.Signed.{abs-add}
+use Rattle.laws.proofs.Signed.{abs-add}
 use Rattle.curve.specs.declared.Worth.TheVariants.{Of}
 use Rattle.curve.specs.Worth.{amount}
 use Rattle.job.specs.declared.Job.{Job}

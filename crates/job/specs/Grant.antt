@@ -9,7 +9,6 @@ use Rattle.job.specs.declared.Job.{Job}
 use Rattle.job.specs.Times.{never, plus, or_never}
 use Rattle.job.specs.Held.{free, after_grant}
 use Rattle.job.specs.Job.{no_request, held_at, hold_of, rollback_of, all_never, given, granted}
-use Rattle.job.specs.Entry.{grant-hold, grant-held, grant-free}
 
 module _ (j : Job) where
   pub granted-none : 32 ≤ j.request.resource → granted j ≡ j
@@ -33,14 +32,8 @@ module _ (j : Job) where
   granted-size = elim (dec_lt j.request.resource 32) [ yes l ↦ rw (granted-some l, length-set, length-map) | no l ↦ rw (granted-none (omega arith)) ]
 
   -- an entry other than the new one
-  entry : (r : ℕ) → r ≢ j.request.resource → held_at (given j) r ≡ after_grant (all_never j) j.request.rollback (held_at j r)
+  pub entry : (r : ℕ) → r ≢ j.request.resource → held_at (given j) r ≡ after_grant (all_never j) j.request.rollback (held_at j r)
   entry r ne = get_or-set_other (map (after_grant (all_never j) j.request.rollback) j.held) j.request.resource r _ free ne ∙ get_or-map (after_grant (all_never j) j.request.rollback) j.held r free
-
-  pub hold-granted : (r : ℕ) → r ≢ j.request.resource → hold_of (granted j) r ≡ hold_of j r
-  hold-granted r ne = elim (dec_lt j.request.resource 32) [
-    | yes l ↦ rw (granted-some l) (ap (λ (h : Held). h.hold) (entry r ne) ∙ grant-hold (all_never j) j.request.rollback (held_at j r))
-    | no l ↦ rw (granted-none (omega arith))
-  ]
 
   -- of a job with a request
   module _ (asks : j.request.resource < 32) where
@@ -53,12 +46,6 @@ module _ (j : Job) where
 
     pub granted-gone : (granted j).request ≡ no_request
     granted-gone = rw (granted-some asks)
-
-    pub rollback-granted : (r : ℕ) → r ≢ j.request.resource → 0 < hold_of j r → rollback_of (granted j) r ≡ or_never (all_never j) (plus (rollback_of j r) j.request.rollback)
-    rollback-granted r ne l = rw (granted-some asks) (ap (λ (h : Held). h.rollback) (entry r ne) ∙ grant-held (all_never j) j.request.rollback (held_at j r) l)
-
-    pub rollback-granted-free : (r : ℕ) → r ≢ j.request.resource → hold_of j r ≤ 0 → rollback_of (granted j) r ≡ rollback_of j r
-    rollback-granted-free r ne l = rw (granted-some asks) (ap (λ (h : Held). h.rollback) (entry r ne) ∙ grant-free (all_never j) j.request.rollback (held_at j r) l)
 
     module _ (size : length j.held ≡ 32) {r : ℕ} (e : r ≡ j.request.resource) where
       new : held_at (given j) r ≡ record { hold = j.request.hold; rollback = or_never (all_never j) j.request.rollback }

@@ -1,17 +1,17 @@
 -- A job after one part: what demand 3 needs of one job.
-use Rattle.std.specs.Prelude.{ℕ, ◌+◌, ◌<◌, ◌≤◌, ◌≡◌, refl, ◌≢◌, ◌⊎◌, Bool, true, false, ltb}
-use Rattle.std.proofs.Math.Decide.{ℕ_discrete, dec_lt}
+use Rattle.std.specs.Prelude.{ℕ, ◌+◌, ◌<◌, ◌≤◌, ◌≡◌, ◌⊎◌, Bool, true, false, ltb}
+use Rattle.std.proofs.Math.Decide.{dec_lt}
 use Rattle.std.proofs.Common.{arith, ap, ◌∙◌, inl, inr, lt-ltb, le-ltb, ltb-true}
 use Rattle.std.proofs.Math.Bool.{and-false}
 use Rattle.std.proofs.lemmas.Bool.{false≢true}
 use Rattle.job.specs.declared.Request.{Request}
 use Rattle.job.specs.declared.Job.{Job}
 use Rattle.job.specs.Times.{never, plus, or_never, either-or-neither}
-use Rattle.job.specs.Job.{hold_of, rollback_of, is_left, granted, worked, left_in, span_in}
-use Rattle.job.specs.Grant.{granted-none, granted-run, granted-rolling, granted-request, granted-rollback, granted-adds, hold-granted}
-use Rattle.job.specs.Run.{ran-run, ran-rollback, ran-rolling, ran-request, hold-ran}
-use Rattle.job.specs.Rollback.{rolled_back-rollback, rolled_back-rolling, rolled_back-request, hold-rolled_back-freed, hold-rolled_back-le}
-use Rattle.job.specs.Fit.{Fit, fit-granted, fit-ran, fit-rolled_back, ended-free}
+use Rattle.job.specs.Job.{is_left, granted, worked, left_in}
+use Rattle.job.specs.Grant.{granted-none, granted-run, granted-rolling, granted-request, granted-rollback, granted-adds}
+use Rattle.job.specs.Run.{ran-run, ran-rollback, ran-rolling, ran-request}
+use Rattle.job.specs.Rollback.{rolled_back-rollback, rolled_back-rolling, rolled_back-request}
+use Rattle.job.specs.Fit.{Fit}
 
 -- A job is left exactly while it has time left in both modes.
 pub is-left : (j : Job) → 1 ≤ j.run → 1 ≤ j.rollback → is_left j ≡ true
@@ -51,29 +51,3 @@ rolling-stays false n j e = ran-rolling n (granted j) ∙ granted-rolling j ∙ 
 pub worked-request : (b : Bool) (n : ℕ) (j : Job) → 32 ≤ (worked b n j).request.resource
 worked-request true n j = omega (arith, ap (λ (x : Request). x.resource) (rolled_back-request n j))
 worked-request false n j = omega (arith, ap (λ (x : Request). x.resource) (ran-request n (granted j)), granted-request j)
-
--- A part keeps its job fit; a job marked never gets no rollback part.
-pub fit-worked : (b : Bool) (n : ℕ) {j : Job} → Fit j → (b ≡ true → j.rollback < never) → Fit (worked b n j)
-fit-worked true n f h = fit-rolled_back f n (h refl)
-fit-worked false n {j} f h = fit-ran (fit-granted f) n (granted-request j)
-
--- A part that takes all that is left leaves nothing held.
-pub worked-all : (b : Bool) {j : Job} → Fit j → (b ≡ true → j.rollback < never) → (r : ℕ) → hold_of (worked b (left_in b j) j) r ≡ 0
-worked-all true {j} f h r = ended-free (fit-worked true j.rollback f h) (inr (omega (arith, rolled_back-rollback j.rollback j))) r
-worked-all false {j} f h r = ended-free (fit-worked false j.run f h) (inl (omega (arith, ran-run j.run (granted j), granted-run j))) r
-
--- A part as long as its job has a resource in the part's mode frees that resource.
-pub worked-span : (b : Bool) (j : Job) (r : ℕ) → r ≢ j.request.resource → hold_of (worked b (span_in b j r) j) r ≡ 0
-worked-span true j r ne = hold-rolled_back-freed (rollback_of j r) j r (omega arith)
-worked-span false j r ne = omega (arith, hold-ran (hold_of j r) (granted j) r, hold-granted j r ne)
-
--- After a part its job holds nothing but what it held and, if the part is normal, what it asked for.
-pub worked-new : (b : Bool) (n : ℕ) (j : Job) (r : ℕ) → 0 < hold_of (worked b n j) r → (0 < hold_of j r) ⊎ ((b ≡ false) × (j.request.resource < 32) × (r ≡ j.request.resource))
-worked-new true n j r h = inl (omega (arith, hold-rolled_back-le n j r))
-worked-new false n j r h = elim (ℕ_discrete r j.request.resource) [
-  | yes e ↦ elim (dec_lt j.request.resource 32) [
-    | yes l ↦ inr (refl, l, e)
-    | no l ↦ inl (omega (arith, hold-ran n (granted j) r, ap (λ (x : Job). hold_of x r) (granted-none j (omega arith))))
-  ]
-  | no ne ↦ inl (omega (arith, hold-ran n (granted j) r, hold-granted j r ne))
-]

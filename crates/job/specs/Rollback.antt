@@ -1,13 +1,12 @@
 -- What a job has after it rolled back for n.
-use Rattle.std.specs.Prelude.{ℕ, ◌-◌, ◌<◌, ◌≤◌, ◌≡◌, true, length}
-use Rattle.std.proofs.Common.{arith, ◌∙◌, le-leb}
+use Rattle.std.specs.Prelude.{ℕ, ◌-◌, ◌≡◌, true, length}
+use Rattle.std.proofs.Common.{arith, le-leb}
 use Rattle.std.proofs.Math.Path.{refl, ap}
 use Rattle.std.proofs.Math.ListN.{length-map, get_or-map}
 use Rattle.job.specs.declared.Held.{Held}
 use Rattle.job.specs.declared.Job.{Job}
 use Rattle.job.specs.Held.{free, after_rollback}
-use Rattle.job.specs.Job.{no_request, held_at, hold_of, rollback_of, rolled_back}
-use Rattle.job.specs.Entry.{kept, freed, no_more, taken}
+use Rattle.job.specs.Job.{no_request, held_at, rolled_back}
 
 module _ (n : ℕ) (j : Job) where
   pub rolled_back-run : (rolled_back n j).run ≡ j.run
@@ -30,18 +29,6 @@ module _ (n : ℕ) (j : Job) where
   unfolding rolled_back
   rolled_back-size = length-map j.held (after_rollback n)
 
-  entry : (f : Held → ℕ) (r : ℕ) → f (held_at (rolled_back n j) r) ≡ f (after_rollback n (held_at j r))
+  pub entry : (f : Held → ℕ) (r : ℕ) → f (held_at (rolled_back n j) r) ≡ f (after_rollback n (held_at j r))
   unfolding rolled_back
   entry f r = ap f (rw (le-leb 0 n (omega arith)) at (get_or-map (after_rollback n) j.held r free))
-
-  pub rollback-rolled_back : (r : ℕ) → rollback_of (rolled_back n j) r ≡ rollback_of j r - n
-  rollback-rolled_back r = entry (λ h. h.rollback) r ∙ taken (λ h. h.rollback) refl (rollback_of j r) n _ refl
-
-  pub hold-rolled_back : (r : ℕ) → n < rollback_of j r → hold_of (rolled_back n j) r ≡ hold_of j r
-  hold-rolled_back r l = entry (λ h. h.hold) r ∙ kept (λ h. h.hold) refl (rollback_of j r) n _ l
-
-  pub hold-rolled_back-freed : (r : ℕ) → rollback_of j r ≤ n → hold_of (rolled_back n j) r ≡ 0
-  hold-rolled_back-freed r l = entry (λ h. h.hold) r ∙ freed (λ h. h.hold) refl (rollback_of j r) n _ l
-
-  pub hold-rolled_back-le : (r : ℕ) → hold_of (rolled_back n j) r ≤ hold_of j r
-  hold-rolled_back-le r = rw (entry (λ h. h.hold) r) (no_more (λ h. h.hold) refl (rollback_of j r) n _)

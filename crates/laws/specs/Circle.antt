@@ -1,7 +1,7 @@
 -- Circles of a graph with one edge out of each place: a walk leaves the graph, or comes upon a place again and goes round for ever.
-use Rattle.std.specs.Prelude.{ℕ, zero, suc, ◌+◌, ◌-◌, ◌<◌, ◌≤◌, ◌≡◌, refl}
-use Rattle.std.proofs.Common.{arith, sym, ap, ◌∙◌, inl, inr}
-use Rattle.laws.specs.Search.{lt-or-le, Repeat, pigeonhole}
+use Rattle.std.specs.Prelude.{ℕ, zero, suc, ◌+◌, ◌-◌, ◌<◌, ◌≤◌, ◌≡◌}
+use Rattle.std.proofs.Common.{arith, sym, ap, ◌∙◌}
+use Rattle.laws.specs.Search.{Repeat}
 use Rattle.laws.specs.Walk.{follow, follow-zero, follow-in, follow-add, follow-swap, follow-part, was-in}
 
 -- some walk from i, not the empty one, comes back to i; a number outside would come back to itself too, so i is a place
@@ -24,12 +24,8 @@ pub record Leaves (f : ℕ → ℕ) (n i : ℕ) : Type 0 where
   pub out : n ≤ follow f n after i
 
 module _ (f : ℕ → ℕ) (n : ℕ) where
-  -- a walk that is inside after n steps has been at n + 1 places, all below n
-  repeats : (i : ℕ) → follow f n n i < n → Repeat (λ k. follow f n k i) (suc n)
-  repeats i h = pigeonhole n (λ k. follow f n k i) (λ k l. was-in f n k n i (omega arith) h)
-
   -- from the place that is repeated the walk comes back to it
-  round : (i : ℕ) (r : Repeat (λ k. follow f n k i) (suc n)) → follow f n (r.second - r.first) (follow f n r.first i) ≡ follow f n r.first i
+  pub round : (i : ℕ) (r : Repeat (λ k. follow f n k i) (suc n)) → follow f n (r.second - r.first) (follow f n r.first i) ≡ follow f n r.first i
   round i r = follow-part f n r.first r.second i (omega arith) ∙ sym r.same
 
 module _ {f : ℕ → ℕ} {n : ℕ} where
@@ -79,33 +75,6 @@ module _ {f : ℕ → ℕ} {n : ℕ} where
         after = t.0 - r.after;
         there = ap (follow f n (t.0 - r.after)) (sym r.there) ∙ follow-part f n r.after t.0 i t.1 ∙ t.2;
       }
-
-  -- a walk still inside after n steps has come round, so without a circle n steps are enough to leave
-  pub paths-end : NoCircle f n → (i : ℕ) → n ≤ follow f n n i
-  paths-end no-circle i = elim (lt-or-le (follow f n n i) n) [
-    | inl h ↦
-        let r = repeats f n i h in
-        absurd (no-circle.never (follow f n r.first i) (record {
-          node = was-in f n r.first n i (omega arith) h;
-          steps = r.second - r.first;
-          some_steps = omega arith;
-          back = round f n i r;
-        }))
-    | inr h ↦ h
-  ]
-
-  -- The place that is repeated need not be i, but i is reached from it; so as many steps as lead round from there lead round from i.
-  pub circle-short : {i : ℕ} → OnCircle f n i → (k : ℕ) × (1 ≤ k) × (k ≤ n) × (follow f n k i ≡ i)
-  circle-short {i} c =
-      let r = repeats f n i (circle-stays c n) in
-      let k : ℕ = r.second - r.first in
-      let j : ℕ = follow f n r.first i in
-      let q : Reaches f n j i = reaches-back c (record { after = r.first; there = refl }) in (
-        k,
-        omega arith,
-        omega arith,
-        ap (follow f n k) (sym q.there) ∙ follow-swap f n k q.after j ∙ ap (follow f n q.after) (round f n i r) ∙ q.there,
-      )
 
   pub no-circle-of-ends : ((i : ℕ) → i < n → Leaves f n i) → NoCircle f n
   no-circle-of-ends ends = record { never = λ i c. circle-not-left c (ends i c.node) }

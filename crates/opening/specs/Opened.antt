@@ -3,7 +3,8 @@ use Rattle.std.specs.Prelude.{ℕ, ◌≤◌, ◌≡◌, Bool, List, nat_abs, le
 use Rattle.curve.specs.Worth.{amount}
 use Rattle.book.specs.declared.Book.{Book}
 use Rattle.book.specs.Format.{book_of}
-use Rattle.accepted.specs.Good.{Good, accepted-good}
+use Rattle.accepted.specs.Good.{Good}
+use Rattle.accepted.proofs.Good.{accepted-good}
 use Rattle.gus.specs.Waits.{holder_of}
 use Rattle.gus.specs.Victims.{knot_of}
 use Rattle.invariants.specs.Sound.{Sound}

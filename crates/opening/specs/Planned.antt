@@ -13,13 +13,16 @@ use Rattle.gus.specs.Victims.{victims_of, knot_of, settled}
 use Rattle.gus.specs.Plan.{Answer, answer_to, answer_of}
 use Rattle.invariants.specs.Waiting.{Ready}
 use Rattle.invariants.specs.Fair.{by-density-fair}
-use Rattle.invariants.specs.Replay.{Replay, replay-ready}
+use Rattle.invariants.specs.Replay.{Replay}
+use Rattle.invariants.proofs.Replay.{replay-ready}
 use Rattle.invariants.specs.Left.{count_left}
-use Rattle.invariants.specs.Rounds.{Replayed, replayed}
+use Rattle.invariants.specs.Rounds.{Replayed}
+use Rattle.invariants.proofs.Rounds.{replayed}
 use Rattle.invariants.specs.End.{Small}
-use Rattle.invariants.specs.Bound.{rounds_few, parts_few, total-within, end-within}
+use Rattle.invariants.specs.Bound.{rounds_few, parts_few}
+use Rattle.invariants.proofs.Bound.{total-within, end-within}
 use Rattle.invariants.specs.Victims.{victims-few}
-use Rattle.invariants.specs.Start.{ready-settled}
+use Rattle.invariants.proofs.Start.{ready-settled}
 use Rattle.opening.specs.Start.{jobs_from, pay_from}
 use Rattle.opening.specs.Sound.{sound-from}
 use Rattle.opening.specs.Falls.{settled-falls}

@@ -15,8 +15,10 @@ use Rattle.book.specs.declared.Book.{Book}
 use Rattle.book.specs.Format.{no_entry, book_of}
 use Rattle.accepted.specs.Layout.{entry_place, record_at, holds_at, held_at, curve_place, jobs_at, job_place}
 use Rattle.accepted.specs.Kept.{BookKept}
-use Rattle.accepted.specs.Exactly.{BookGot, book-back}
-use Rattle.accepted.specs.Good.{Good, record_of, record_is, accepted-good}
+use Rattle.accepted.specs.Exactly.{BookGot}
+use Rattle.accepted.proofs.Exactly.{book-back}
+use Rattle.accepted.specs.Good.{Good, record_of, record_is}
+use Rattle.accepted.proofs.Good.{accepted-good}
 use Rattle.gus.specs.State.{vacant, job_at}
 use Rattle.opening.specs.declared.head.Head.{Head}
 use Rattle.opening.specs.Start.{with_entry, entry_laid, held_from, job_from, jobs_from}

@@ -16,7 +16,7 @@ use Rattle.gus.specs.Round.{rounds}
 use Rattle.gus.specs.Victims.{victims_of, knot_of, settled}
 use Rattle.gus.specs.Plan.{answer_to}
 use Rattle.invariants.specs.Waiting.{Ready}
-use Rattle.invariants.specs.Start.{ready-settled}
+use Rattle.invariants.proofs.Start.{ready-settled}
 use Rattle.invariants.specs.End.{Small}
 use Rattle.opening.specs.Start.{jobs_from, pay_from}
 use Rattle.opening.specs.Small.{small-settled}
@@ -30,7 +30,7 @@ use Rattle.planner.specs.declared.Planned.{Planned}
 use Rattle.planner.specs.declared.FirstPart.{FirstPart}
 use Rattle.book.specs.declared.Judged.{Judged}
 use Rattle.book.specs.Judged.{judged_of}
-use Rattle.accepted.specs.Spans.{starts-at}
+use Rattle.accepted.proofs.Spans.{starts-at}
 use Rattle.opening.specs.Taken.{jobs_in}
 use Rattle.opening.specs.TakenRight.{jobs-taken}
 use Rattle.planner.specs.Standing.{Accepted}

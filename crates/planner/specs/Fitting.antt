@@ -2,7 +2,7 @@
 use Rattle.std.specs.Prelude.{◌≡◌, Bool, true, List, ℕ, zero, suc, ◌+◌, ◌*◌, ◌<◌, ◌≤◌, nat_abs, length, get_or}
 use Rattle.std.proofs.lemmas.Bool.{false≢true}
 use Rattle.std.proofs.Common.{not-suc-le-zero, le_of_suc-le-suc, arith}
-use Rattle.laws.specs.Signed.{abs-add}
+use Rattle.laws.proofs.Signed.{abs-add}
 use Rattle.curve.specs.Worth.{amount}
 use Rattle.job.specs.declared.Job.{Job}
 use Rattle.gus.specs.declared.Part.{Part}
@@ -17,9 +17,12 @@ use Rattle.invariants.specs.Sound.{Member}
 use Rattle.invariants.specs.Waiting.{Ready}
 use Rattle.invariants.specs.Fair.{Fair}
 use Rattle.invariants.specs.Runs.{Runs, last, next, group-runs}
-use Rattle.invariants.specs.Replay.{runs-replay, replay-ready}
-use Rattle.invariants.specs.Left.{count_left, count_most, runs-count}
-use Rattle.invariants.specs.Burden.{burden, burden-most, runs-burden}
+use Rattle.invariants.specs.Replay.{runs-replay}
+use Rattle.invariants.proofs.Replay.{replay-ready}
+use Rattle.invariants.specs.Left.{count_left, count_most}
+use Rattle.invariants.proofs.Left.{runs-count}
+use Rattle.invariants.specs.Burden.{burden, burden-most}
+use Rattle.invariants.proofs.Burden.{runs-burden}
 use Rattle.invariants.specs.Winner.{Won, no_one, some_one}
 use Rattle.invariants.specs.Picked.{Candidate, picked}
 use Rattle.invariants.specs.End.{Small}

@@ -9,7 +9,8 @@ use Rattle.gus.specs.State.{worked_by}
 use Rattle.gus.specs.Waits.{nobody, holder_of}
 use Rattle.invariants.specs.Sound.{Sound}
 use Rattle.invariants.specs.Proper.{Proper}
-use Rattle.invariants.specs.Holders.{holder_after, holder-step}
+use Rattle.invariants.specs.Holders.{holder_after}
+use Rattle.invariants.proofs.Holders.{holder-step}
 use Rattle.planner.specs.declared.State.{State}
 use Rattle.planner.specs.Applied.{holders_after, after_part, holder-after}
 

@@ -10,7 +10,7 @@ use Rattle.gus.specs.View.{Pay, View, view_of}
 use Rattle.gus.specs.Choice.{Way}
 use Rattle.gus.specs.Group.{Group}
 use Rattle.invariants.specs.Fair.{Fair}
-use Rattle.invariants.specs.Burden.{runs-burden}
+use Rattle.invariants.proofs.Burden.{runs-burden}
 use Rattle.planner.specs.declared.State.{State}
 use Rattle.planner.specs.declared.GroupParts.{GroupParts}
 use Rattle.planner.specs.Bounds.{Planned}

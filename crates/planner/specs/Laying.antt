@@ -7,7 +7,7 @@ use Rattle.laws.specs.Count.{upto-each}
 use Rattle.laws.specs.Inside.{inside}
 use Rattle.cursor.specs.Field.{value_at}
 use Rattle.book.specs.Format.{book_of}
-use Rattle.accepted.specs.Exactly.{book-back}
+use Rattle.accepted.proofs.Exactly.{book-back}
 use Rattle.job.specs.Job.{no_job}
 use Rattle.gus.specs.Waits.{nobody}
 use Rattle.opening.specs.Start.{jobs_from}

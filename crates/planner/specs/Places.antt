@@ -7,13 +7,15 @@ use Rattle.cursor.specs.Field.{value_at}
 use Rattle.curve.specs.declared.Worth.TheVariants.{None}
 use Rattle.curve.specs.Worth.{worth_at}
 use Rattle.curve.specs.Layout.{piece_place}
-use Rattle.curve.specs.Before.{worth_before, before-is, before-none}
+use Rattle.curve.specs.Before.{worth_before, before-none}
+use Rattle.curve.proofs.Before.{before-is}
 use Rattle.book.specs.declared.Record.{Record}
 use Rattle.book.specs.declared.Book.{Book}
 use Rattle.book.specs.Format.{empty_record, book_of}
 use Rattle.book.specs.Size.{records_size, jobs-accepted}
-use Rattle.accepted.specs.CurvePlaces.{curve_place_of, curve-stands, worth-stands}
-use Rattle.accepted.specs.Good.{accepted-good}
+use Rattle.accepted.specs.CurvePlaces.{curve_place_of}
+use Rattle.accepted.proofs.CurvePlaces.{curve-stands, worth-stands}
+use Rattle.accepted.proofs.Good.{accepted-good}
 use Rattle.opening.specs.Start.{pay_from}
 use Rattle.opening.specs.Pay.{no-worth}
 

@@ -5,7 +5,7 @@ use Rattle.std.proofs.Common.{◌∙◌, arith}
 use Rattle.job.specs.declared.Job.{Job}
 use Rattle.book.specs.declared.Book.{Book}
 use Rattle.book.specs.Format.{book_of}
-use Rattle.accepted.specs.Good.{accepted-good}
+use Rattle.accepted.proofs.Good.{accepted-good}
 use Rattle.gus.specs.Victims.{victims_of, settled}
 use Rattle.invariants.specs.Sound.{Sound}
 use Rattle.invariants.specs.End.{Small}

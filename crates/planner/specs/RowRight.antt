@@ -17,9 +17,10 @@ use Rattle.book.specs.declared.Book.{Book}
 use Rattle.book.specs.Format.{book_of}
 use Rattle.book.specs.Starts.{start_is}
 use Rattle.accepted.specs.Layout.{job_place}
-use Rattle.accepted.specs.Spans.{starts-at}
+use Rattle.accepted.proofs.Spans.{starts-at}
 use Rattle.accepted.specs.CurvePlaces.{curve_place_of}
-use Rattle.accepted.specs.Good.{Good, accepted-good}
+use Rattle.accepted.specs.Good.{Good}
+use Rattle.accepted.proofs.Good.{accepted-good}
 use Rattle.gus.specs.State.{vacant, job_at}
 use Rattle.gus.specs.Waits.{nobody, waits_for}
 use Rattle.invariants.specs.Sound.{Sound}

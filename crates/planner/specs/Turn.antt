@@ -6,7 +6,7 @@ use Rattle.std.proofs.Math.Bool.{true, false}
 use native.Mathlib.Omega.{arith}
 use borrow.Author.Tests.{eq-eqb, ne_eqb}
 use Rattle.std.proofs.Math.IntN.{nat_abs, +ℤ_idr}
-use Rattle.laws.specs.Signed.{abs-add}
+use Rattle.laws.proofs.Signed.{abs-add}
 use Rattle.curve.specs.declared.Worth.{Worth}
 use Rattle.curve.specs.declared.Worth.TheVariants.{None, Of}
 use Rattle.curve.specs.Worth.{defined, amount}

@@ -14,7 +14,8 @@ use Rattle.gus.specs.State.{job_at, worked_by, after}
 use Rattle.gus.specs.Waits.{nobody, waits_for}
 use Rattle.invariants.specs.Sound.{Sound}
 use Rattle.invariants.specs.Proper.{Proper, at_same, at_other, at-request, sound-after}
-use Rattle.invariants.specs.Waiting.{waits-none, waits-step}
+use Rattle.invariants.specs.Waiting.{waits-none}
+use Rattle.invariants.proofs.Waiting.{waits-step}
 use Rattle.planner.specs.Sheet.{cell}
 use Rattle.planner.specs.Places.{Place}
 use Rattle.planner.specs.Rows.{asked, Rows}

@@ -19,7 +19,8 @@ use Rattle.invariants.specs.Proper.{Proper, sound-after}
 use Rattle.invariants.specs.Replay.{Replay, over, then, paid}
 use Rattle.invariants.specs.Left.{count_left}
 use Rattle.invariants.specs.Burden.{burden-most}
-use Rattle.invariants.specs.Given.{grant_adds, grants_add as grants_reckoned, run_kept, rollback_kept, once-rollback}
+use Rattle.invariants.specs.Given.{grant_adds, grants_add as grants_reckoned}
+use Rattle.invariants.proofs.Given.{run_kept, rollback_kept, once-rollback}
 use Rattle.invariants.specs.Picked.{course_at}
 use Rattle.invariants.specs.Rounds.{Replayed}
 use Rattle.replay.specs.Machine.{MachineJob, Machine, follow}

@@ -7,16 +7,17 @@ use Rattle.laws.specs.Search.{lt-or-le}
 use Rattle.laws.specs.Circle.{circle-in}
 use Rattle.book.specs.declared.Book.{Book}
 use Rattle.book.specs.Format.{book_of}
-use Rattle.accepted.specs.Good.{Good, accepted-good}
+use Rattle.accepted.specs.Good.{Good}
+use Rattle.accepted.proofs.Good.{accepted-good}
 use Rattle.gus.specs.Choice.{Way, by_density}
 use Rattle.gus.specs.Victims.{victims_of, knot_of, settled}
 use Rattle.gus.specs.Plan.{Answer, answer_to, answer_by}
 use Rattle.invariants.specs.Waiting.{waits-none}
 use Rattle.invariants.specs.Fair.{Fair, by-density-fair}
 use Rattle.laws.specs.Among.{Among}
-use Rattle.invariants.specs.Victims.{victims-on}
-use Rattle.invariants.specs.Start.{ready-settled}
-use Rattle.invariants.specs.Answer.{answer-replayed}
+use Rattle.invariants.proofs.Victims.{victims-on}
+use Rattle.invariants.proofs.Start.{ready-settled}
+use Rattle.invariants.proofs.Answer.{answer-replayed}
 use Rattle.opening.specs.Start.{jobs_from, pay_from}
 use Rattle.opening.specs.Sound.{job-past, sound-from}
 use Rattle.opening.specs.Falls.{settled-falls}

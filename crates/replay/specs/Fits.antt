@@ -12,7 +12,7 @@ use Rattle.gus.specs.Victims.{victims_of, knot_of}
 use Rattle.gus.specs.Plan.{answer_to}
 use Rattle.invariants.specs.Sound.{Sound}
 use Rattle.laws.specs.Among.{among-at}
-use Rattle.invariants.specs.Victims.{victims-on}
+use Rattle.invariants.proofs.Victims.{victims-on}
 use Rattle.invariants.specs.Replay.{Replay}
 use Rattle.invariants.specs.End.{Small}
 use Rattle.opening.specs.Small.{small-after-all}

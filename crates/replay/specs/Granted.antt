@@ -8,7 +8,8 @@ use Rattle.job.specs.declared.Request.{Request}
 use Rattle.job.specs.declared.Job.{Job}
 use Rattle.job.specs.Times.{never, plus, or_never, either-or-neither, le-or-never}
 use Rattle.job.specs.Job.{hold_of, rollback_of, all_never, granted, worked}
-use Rattle.job.specs.Grant.{granted-none, granted-run, granted-rolling, granted-rollback, granted-gone, hold-granted, hold-granted-new, rollback-granted, rollback-granted-new}
+use Rattle.job.specs.Grant.{granted-none, granted-run, granted-rolling, granted-rollback, granted-gone, hold-granted-new, rollback-granted-new}
+use Rattle.job.proofs.Grant.{hold-granted, rollback-granted}
 use Rattle.job.specs.Fit.{Ask, Fit}
 use Rattle.book.specs.declared.Entry.{Entry}
 use Rattle.replay.specs.Machine.{MachineJob, longer, longer_hold, new_hold, with_request, given}

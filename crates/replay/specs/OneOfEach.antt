@@ -6,7 +6,7 @@ use Rattle.gus.specs.View.{View}
 use Rattle.gus.specs.Victims.{circle_of, victims_of, knot_of}
 use Rattle.laws.specs.Among.{Among}
 use Rattle.laws.specs.Rising.{Rising}
-use Rattle.invariants.specs.Victims.{victims-on, victims-each, victims-rise}
+use Rattle.invariants.proofs.Victims.{victims-on, victims-each, victims-rise}
 
 pub record OneOfEach (v : View) (victims : List ℕ) : Type 0 where
   -- each victim is on a circle, and can be rolled back

@@ -10,7 +10,8 @@ use Rattle.gus.specs.View.{Pay}
 use Rattle.invariants.specs.Sound.{Sound}
 use Rattle.invariants.specs.Proper.{Proper, sound-after}
 use Rattle.invariants.specs.Replay.{Replay, over, then, lasts, earns, all_inside, both}
-use Rattle.invariants.specs.Given.{OnlyRollback, OnceRollback, rolling-kept}
+use Rattle.invariants.specs.Given.{OnlyRollback, OnceRollback}
+use Rattle.invariants.proofs.Given.{rolling-kept}
 use Rattle.replay.specs.Moments.{shortened, done_by}
 use Rattle.replay.specs.Sentences.{part_at}
 

@@ -8,10 +8,11 @@ use Rattle.cursor.specs.Refusal.{ROOM, KNOT}
 use Rattle.book.specs.Format.{book_of}
 use Rattle.accepted.specs.Layout.{Bytes}
 use Rattle.accepted.specs.Kept.{BookKept}
-use Rattle.accepted.specs.Exactly.{accepted-exactly}
+use Rattle.accepted.proofs.Exactly.{accepted-exactly}
 use Rattle.gus.specs.declared.Part.{Part}
 use Rattle.gus.specs.Choice.{by_density}
-use Rattle.invariants.specs.Knot.{Knotted, knot-is, knot-exactly}
+use Rattle.invariants.specs.Knot.{Knotted}
+use Rattle.invariants.proofs.Knot.{knot-is, knot-exactly}
 use Rattle.opening.specs.Planned.{view_from}
 use Rattle.planner.specs.declared.Planned.{Planned}
 use Rattle.planner.specs.Planned.{laid_plan, refused_plan, planned_of}

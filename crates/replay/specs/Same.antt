@@ -4,8 +4,10 @@ use Rattle.std.proofs.Common.{sym, ap, ◌∙◌, arith, lt-ltb, le-ltb}
 use Rattle.std.proofs.Math.Decide.{dec_lt}
 use Rattle.job.specs.declared.Job.{Job}
 use Rattle.job.specs.Job.{hold_of, rollback_of, ran, rolled_back}
-use Rattle.job.specs.Run.{ran-run, ran-rollback, ran-rolling, ran-request, hold-ran, rollback-ran}
-use Rattle.job.specs.Rollback.{rolled_back-run, rolled_back-rollback, rolled_back-rolling, rolled_back-request, rollback-rolled_back, hold-rolled_back, hold-rolled_back-freed, hold-rolled_back-le}
+use Rattle.job.specs.Run.{ran-run, ran-rollback, ran-rolling, ran-request, hold-ran}
+use Rattle.job.proofs.Run.{rollback-ran}
+use Rattle.job.specs.Rollback.{rolled_back-run, rolled_back-rollback, rolled_back-rolling, rolled_back-request}
+use Rattle.job.proofs.Rollback.{rollback-rolled_back, hold-rolled_back, hold-rolled_back-freed, hold-rolled_back-le}
 use Rattle.book.specs.declared.Entry.{Entry}
 use Rattle.replay.specs.Machine.{MachineJob, still_held, less_hold, has_run, less_rollback, has_rolled_back}
 use Rattle.replay.specs.View.{lists, hold_on}

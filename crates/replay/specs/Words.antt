@@ -6,10 +6,10 @@ use Rattle.book.specs.Format.{book_of}
 use Rattle.book.specs.Question.{found_in}
 use Rattle.accepted.specs.Layout.{Bytes, two_bytes, jobs_at}
 use Rattle.accepted.specs.Kept.{BookKept}
-use Rattle.accepted.specs.Exactly.{book-back}
+use Rattle.accepted.proofs.Exactly.{book-back}
 use Rattle.accepted.specs.Reach.{refusal-near}
-use Rattle.accepted.specs.Spans.{accepted-laid}
-use Rattle.invariants.specs.Knot.{knot-is, knot-exactly}
+use Rattle.accepted.proofs.Spans.{accepted-laid}
+use Rattle.invariants.proofs.Knot.{knot-is, knot-exactly}
 use Rattle.gus.specs.declared.Part.{Part}
 use Rattle.cursor.specs.Refusal.{KNOT}
 use Rattle.opening.specs.Planned.{view_from, answer_from}

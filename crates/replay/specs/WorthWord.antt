@@ -11,7 +11,8 @@ use Rattle.book.specs.declared.worth.CurveWorth.{CurveWorth}
 use Rattle.book.specs.CurveWorth.{curve_worth}
 use Rattle.accepted.specs.Layout.{Bytes}
 use Rattle.accepted.specs.Reach.{worth-near}
-use Rattle.accepted.specs.CurveBytes.{AloneKept, curve-exactly, worth-alone, worth-alone-small}
+use Rattle.accepted.specs.CurveBytes.{AloneKept}
+use Rattle.accepted.proofs.CurveBytes.{curve-exactly, worth-alone, worth-alone-small}
 use Rattle.ilhuepatl.specs.declared.Verdict.{Verdict}
 use Rattle.ilhuepatl.specs.Answer.{bits}
 use Rattle.ilhuepatl.specs.Calls.{verdict_of, word, worth_bits, word_of_worth}

@@ -12,7 +12,7 @@ use Rattle.gus.specs.Victims.{knot_of}
 use Rattle.gus.specs.Plan.{answer_to}
 use Rattle.laws.specs.Among.{Among}
 use Rattle.invariants.specs.Replay.{Replay, over, then, lasts}
-use Rattle.invariants.specs.Victims.{victims-on}
+use Rattle.invariants.proofs.Victims.{victims-on}
 use Rattle.opening.specs.Planned.{view_from, answer_from}
 use Rattle.opening.specs.Opened.{accepted-opened}
 use Rattle.planner.specs.LaidOut.{empty_part}

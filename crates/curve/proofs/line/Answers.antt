@@ -7,7 +7,8 @@ use mir.Syntax.{w32, w64}
 use mir.Val.{SFits, to_z, of_z}
 use mir.Facts.{to_z-of_z, sfits_widen}
 use borrow.Author.Rules.{rules}
-use Rattle.laws.specs.Signed.{fits-abs, abs-fits, abs-add, abs-mul-le}
+use Rattle.laws.specs.Signed.{fits-abs, abs-fits}
+use Rattle.laws.proofs.Signed.{abs-add, abs-mul-le}
 use Rattle.curve.proofs.line.Goals as goal
 
 pub returns : goal.returns

@@ -1,7 +1,8 @@
 use Rattle.std.proofs.Common.{ℤ, pos, neg_ℤ, arith, to_z-of_z, w32, w64, SFits, rules}
 use lib.IntN.{+ℤ_idl}
 use mir.Facts.{sfits_widen}
-use Rattle.laws.specs.Signed.{fits-abs, abs-fits, abs_neg, dn-neg, lt_z-true, lt_z-false, non_neg-in, tight}
+use Rattle.laws.specs.Signed.{fits-abs, abs-fits, dn-neg, lt_z-true, lt_z-false, non_neg-in, tight}
+use Rattle.laws.proofs.Signed.{abs_neg}
 use Rattle.corpus.proofs.print.signed.Statement.{statement}
 use Rattle.corpus.proofs.print.signed.Tie as tie
 

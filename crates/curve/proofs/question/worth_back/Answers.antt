@@ -4,7 +4,8 @@ use mir.Syntax.{w64}
 use mir.Facts.{to_z-of_z}
 use borrow.Author.Rules.{rules}
 use Rattle.curve.specs.declared.Worth.TheVariants.{Of}
-use Rattle.curve.specs.Before.{backing-short, backing-served, backing-next, backing-none}
+use Rattle.curve.specs.Before.{backing-short, backing-served, backing-next}
+use Rattle.curve.proofs.Before.{backing-none}
 use Rattle.curve.proofs.question.worth_back.Goals as goal
 
 pub returns-then-place-lt10 : goal.returns-then-place-lt10

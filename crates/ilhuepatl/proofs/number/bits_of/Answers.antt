@@ -6,7 +6,8 @@ use lib.IntN.{ℤ, pos, nat_abs, ◌+ℤ◌}
 use mir.Syntax.{w32, w64}
 use mir.Val.{SFits}
 use mir.Facts.{to_z-of_z, sfits_widen}
-use Rattle.laws.specs.Signed.{up, dn, parts, fits-abs, abs-fits, abs_is}
+use Rattle.laws.specs.Signed.{up, dn, fits-abs, abs-fits, abs_is}
+use Rattle.laws.proofs.Signed.{parts}
 use Rattle.ilhuepatl.specs.Answer.{bits}
 use Rattle.ilhuepatl.proofs.number.bits_of.Goals as goal
 

@@ -8,7 +8,8 @@ use lib.Signed.{lt_z}
 use mir.Syntax.{w32, w64}
 use mir.Val.{SFits}
 use mir.Facts.{to_z-of_z, sfits_widen}
-use Rattle.laws.specs.Signed.{dn, fits-abs, abs-fits, abs_neg, dn-neg, lt_z-true, lt_z-false, non_neg-in, tight}
+use Rattle.laws.specs.Signed.{dn, fits-abs, abs-fits, dn-neg, lt_z-true, lt_z-false, non_neg-in, tight}
+use Rattle.laws.proofs.Signed.{abs_neg}
 use Rattle.text.specs.Decimal.{ascii}
 use Rattle.text.specs.Signs.{below-zero, from_zero}
 use Rattle.text.specs.Wrote.{wrote-length}

@@ -1,0 +1,12 @@
+pub mod CurveBytes
+pub mod CurvePlaces
+pub mod CurveRefusals
+pub mod Curves
+pub mod Exactly
+pub mod Good
+pub mod HeldLists
+pub mod JobRecords
+pub mod Places
+pub mod Requests
+pub mod Spans
+pub mod Sticks

@@ -1,0 +1,16 @@
+pub mod Answer
+pub mod Bound
+pub mod Burden
+pub mod End
+pub mod Given
+pub mod Holders
+pub mod Knot
+pub mod Left
+pub mod Loss
+pub mod Paid
+pub mod Picked
+pub mod Replay
+pub mod Rounds
+pub mod Start
+pub mod Victims
+pub mod Waiting
