@@ -1,21 +1,12 @@
 -- R-8, FROM A BOOK'S BYTES: "for every accepted book that no member of a wait circle is in rollback, also after earlier victims are settled".
 -- So 01's loss of 0 for a job in rollback is asked of nobody, and neither the victims nor the knot depend on it.
-use Rattle.std.specs.Prelude.{ℕ, ◌≡◌, false, take}
-use mathlib.Core.List.{List, []}
-use Rattle.laws.specs.Circle.{OnCircle}
+use Rattle.std.specs.Prelude.{ℕ, take}
+use mathlib.Core.List.{List}
 use Rattle.job.specs.declared.Job.{Job}
 use Rattle.book.specs.declared.Book.{Book}
-use Rattle.book.specs.Format.{book_of}
-use Rattle.gus.specs.State.{job_at}
-use Rattle.gus.specs.Waits.{waits_for}
-use Rattle.gus.specs.Victims.{victims_of, knot_of, settled}
-use Rattle.invariants.specs.Sound.{Sound}
-use Rattle.invariants.specs.CircleModes.{circle-normal}
-use Rattle.invariants.specs.Loss.{view_by_mode, LossesAgree, victims-by-mode, knot-by-mode}
-use Rattle.invariants.proofs.Loss.{losses-agree}
-use Rattle.opening.specs.Start.{jobs_from, pay_from}
+use Rattle.gus.specs.Victims.{victims_of, settled}
+use Rattle.opening.specs.Start.{jobs_from}
 use Rattle.opening.specs.Planned.{view_from}
-use Rattle.opening.specs.Opened.{accepted-opened}
 
 -- the first n victims of a book, and its jobs after these were settled
 abbrev pub first_victims : ℕ → Book → List ℕ
@@ -23,27 +14,3 @@ first_victims n b = take n (victims_of (view_from b) b.now)
 
 abbrev pub after_victims : ℕ → Book → List Job
 after_victims n b = settled (jobs_from b) (first_victims n b)
-
-module _ (s : List ℕ) (accepted : (book_of s).number ≡ 0) where
-  sound : Sound (jobs_from (book_of s))
-  sound = (accepted-opened s accepted).sound
-
-  pub none_in_rollback : (i : ℕ) → OnCircle (waits_for (jobs_from (book_of s))) 32 i → (job_at (jobs_from (book_of s)) i).rolling ≡ false
-  unfolding settled
-  none_in_rollback = circle-normal sound []
-
-  pub none-in-rollback-after : (n i : ℕ) → OnCircle (waits_for (after_victims n (book_of s))) 32 i → (job_at (after_victims n (book_of s)) i).rolling ≡ false
-  none-in-rollback-after n = circle-normal sound (first_victims n (book_of s))
-
-  pub losses-unchanged : LossesAgree (pay_from (book_of s)) (jobs_from (book_of s))
-  unfolding settled
-  losses-unchanged = losses-agree sound [] (pay_from (book_of s))
-
-  pub losses-unchanged-after : (n : ℕ) → LossesAgree (pay_from (book_of s)) (after_victims n (book_of s))
-  losses-unchanged-after n = losses-agree sound (first_victims n (book_of s)) (pay_from (book_of s))
-
-  pub victims-unchanged : victims_of (view_by_mode (view_from (book_of s))) (book_of s).now ≡ victims_of (view_from (book_of s)) (book_of s).now
-  victims-unchanged = victims-by-mode losses-unchanged (book_of s).now
-
-  pub knot-unchanged : knot_of (view_by_mode (view_from (book_of s))) (book_of s).now ≡ knot_of (view_from (book_of s)) (book_of s).now
-  knot-unchanged = knot-by-mode losses-unchanged (book_of s).now

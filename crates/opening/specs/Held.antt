@@ -10,12 +10,11 @@ use Rattle.laws.specs.Count.{upto}
 use Rattle.laws.specs.Search.{search-below}
 use Rattle.job.specs.declared.Held.{Held}
 use Rattle.job.specs.Held.{free}
-use Rattle.job.specs.Job.{held_at, hold_of, rollback_of}
 use Rattle.book.specs.declared.Entry.{Entry}
 use Rattle.book.specs.declared.Record.{Record}
 use Rattle.book.specs.Format.{no_entry}
 use Rattle.invariants.specs.Vacant.{vacant-free}
-use Rattle.opening.specs.Start.{held_of_entry, with_entry, held_from, job_from}
+use Rattle.opening.specs.Start.{held_of_entry, with_entry, held_from}
 
 abbrev pub entry_at : Record → ℕ → Entry
 entry_at x k = get_or x.held k no_entry
@@ -48,13 +47,13 @@ module _ (x : Record) where
   laid-size zero = refl
   laid-size (suc n) = rw length-set (laid-size n)
 
-  laid-free : (n r : ℕ) → ((k : ℕ) → k < n → (entry_at x k).resource ≡ r → ⊥) → get_or (laid n) r free ≡ free
+  pub laid-free : (n r : ℕ) → ((k : ℕ) → k < n → (entry_at x k).resource ≡ r → ⊥) → get_or (laid n) r free ≡ free
   unfolding upto
   laid-free zero r none = vacant-free r
   laid-free (suc n) r none =
       get_or-set_other (laid n) (entry_at x n).resource r _ free (λ e. none n (omega arith) (sym e)) ∙ laid-free n r (λ k l. none k (omega arith))
 
-  laid-entry : Apart x → (n k : ℕ) → n ≤ x.holds → k < n → get_or (laid n) (entry_at x k).resource free ≡ held_of_entry (entry_at x k)
+  pub laid-entry : Apart x → (n k : ℕ) → n ≤ x.holds → k < n → get_or (laid n) (entry_at x k).resource free ≡ held_of_entry (entry_at x k)
   unfolding upto
   laid-entry a zero k h l = absurd (not-suc-le-zero l)
   laid-entry a (suc n) k h l = elim (ℕ_discrete k n) [
@@ -69,28 +68,6 @@ module _ (x : Record) where
   held-size = laid-size _
 
   module _ (a : Apart x) where
-    all_laid : held_from x ≡ laid x.holds
+    pub all_laid : held_from x ≡ laid x.holds
     unfolding held_from
     all_laid = ap laid (omega (arith, a.few))
-
-    entry-held : (k : ℕ) → k < x.holds → held_at (job_from x) (entry_at x k).resource ≡ held_of_entry (entry_at x k)
-    unfolding job_from
-    entry-held k l = rw all_laid (laid-entry a x.holds k (omega arith) l)
-
-    other-free : (r : ℕ) → ((k : ℕ) → Names x r k → ⊥) → held_at (job_from x) r ≡ free
-    unfolding job_from
-    other-free r none = rw all_laid (laid-free x.holds r (λ k l e. none k (record { among = l; is = e })))
-
-    -- EACH ENTRY gives its hold and its rollback,
-    pub hold-entry : (k : ℕ) → k < x.holds → hold_of (job_from x) (entry_at x k).resource ≡ (entry_at x k).hold
-    hold-entry k l = ap (λ (h : Held). h.hold) (entry-held k l)
-
-    pub rollback-entry : (k : ℕ) → k < x.holds → rollback_of (job_from x) (entry_at x k).resource ≡ (entry_at x k).rollback
-    rollback-entry k l = ap (λ (h : Held). h.rollback) (entry-held k l)
-
-    -- and what no entry names is not held
-    pub hold-none : (r : ℕ) → ((k : ℕ) → Names x r k → ⊥) → hold_of (job_from x) r ≡ 0
-    hold-none r none = ap (λ (h : Held). h.hold) (other-free r none)
-
-    pub rollback-none : (r : ℕ) → ((k : ℕ) → Names x r k → ⊥) → rollback_of (job_from x) r ≡ 0
-    rollback-none r none = ap (λ (h : Held). h.rollback) (other-free r none)

@@ -5,12 +5,10 @@ pub mod Held
 pub mod Fit
 pub mod Sound
 pub mod TakenRight
-pub mod Holders
 pub mod Falls
 pub mod Small
 pub mod Pay
 pub mod Modest
 pub mod Few
 pub mod Planned
-pub mod Opened
 pub mod CircleModes

@@ -20,7 +20,7 @@ use Rattle.invariants.proofs.Start.{ready-settled}
 use Rattle.invariants.specs.End.{Small}
 use Rattle.opening.specs.Start.{jobs_from, pay_from}
 use Rattle.opening.specs.Small.{small-settled}
-use Rattle.opening.specs.Opened.{accepted-opened}
+use Rattle.opening.proofs.Opened.{accepted-opened}
 use Rattle.opening.specs.Planned.{view_from, start_from}
 use Rattle.planner.specs.declared.State.{State}
 use Rattle.planner.specs.declared.Victims.{Victims}
@@ -32,7 +32,7 @@ use Rattle.book.specs.declared.Judged.{Judged}
 use Rattle.book.specs.Judged.{judged_of}
 use Rattle.accepted.proofs.Spans.{starts-at}
 use Rattle.opening.specs.Taken.{jobs_in}
-use Rattle.opening.specs.TakenRight.{jobs-taken}
+use Rattle.opening.proofs.TakenRight.{jobs-taken}
 use Rattle.planner.specs.Standing.{Accepted}
 use Rattle.planner.specs.Sheet.{seen}
 use Rattle.planner.specs.Rows.{Idle}

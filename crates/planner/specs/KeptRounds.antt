@@ -11,7 +11,7 @@ use Rattle.gus.specs.Choice.{Way}
 use Rattle.gus.specs.Victims.{knot_of}
 use Rattle.invariants.specs.Fair.{Fair}
 use Rattle.invariants.specs.Replay.{runs-replay}
-use Rattle.opening.specs.Opened.{accepted-opened}
+use Rattle.opening.proofs.Opened.{accepted-opened}
 use Rattle.opening.specs.Planned.{view_from}
 use Rattle.planner.specs.declared.State.{State}
 use Rattle.planner.specs.Sheet.{hold_in, undo_in, waits_in}

@@ -12,7 +12,7 @@ use Rattle.invariants.specs.End.{Small}
 use Rattle.opening.specs.Start.{jobs_from}
 use Rattle.opening.specs.Sound.{job-past}
 use Rattle.opening.specs.Modest.{modest}
-use Rattle.opening.specs.Opened.{Opened, accepted-opened}
+use Rattle.opening.proofs.Opened.{Opened, accepted-opened}
 use Rattle.opening.specs.Planned.{view_from, start_from}
 use Rattle.planner.specs.declared.Victims.{Victims}
 use Rattle.planner.specs.declared.State.{State}

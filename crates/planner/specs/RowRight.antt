@@ -28,9 +28,11 @@ use Rattle.invariants.specs.Waiting.{waits-none}
 use Rattle.opening.specs.declared.head.Head.{Head}
 use Rattle.opening.specs.Start.{jobs_from}
 use Rattle.opening.specs.Taken.{head_in, job_in}
-use Rattle.opening.specs.TakenRight.{curve-inside, curve-taken, head-taken, job-taken}
-use Rattle.opening.specs.Sound.{job_is, job-past, sound-from}
-use Rattle.opening.specs.Holders.{holders-agree}
+use Rattle.opening.specs.TakenRight.{curve-inside, curve-taken, head-taken}
+use Rattle.opening.proofs.TakenRight.{job-taken}
+use Rattle.opening.specs.Sound.{job_is, job-past}
+use Rattle.opening.proofs.Sound.{sound-from}
+use Rattle.opening.proofs.Holders.{holders-agree}
 use Rattle.planner.specs.Places.{Place, no_place, place_for, place_inside}
 use Rattle.planner.specs.Standing.{Standing}
 use Rattle.planner.specs.Sheet.{cell}

@@ -9,7 +9,7 @@ use Rattle.gus.specs.Plan.{answer_after, answer_to}
 use Rattle.invariants.specs.Loss.{view_by_mode}
 use Rattle.opening.specs.Start.{jobs_from, pay_from}
 use Rattle.opening.specs.Planned.{view_from}
-use Rattle.opening.specs.CircleModes.{victims-unchanged, knot-unchanged}
+use Rattle.opening.proofs.CircleModes.{victims-unchanged, knot-unchanged}
 use Rattle.planner.specs.declared.Planned.{Planned}
 use Rattle.planner.specs.Planned.{laid_plan, refused_plan, answered_to, planned_to}
 

@@ -83,12 +83,12 @@ module _ {pay : Pay} {m : Machine} {js : List Job} {p : Part} (a : Agrees pay m 
 pub agrees-all : {pay : Pay} {m : Machine} {js : List Job} {ps : List Part} → Agrees pay m js → Sound js → Replay js ps → Agrees pay (follow m ps) (after_all js ps)
 unfolding follow after_all
 agrees-all a s over = a
-agrees-all a s (then g r) = agrees-all (agrees_after a s g) (sound-after s g) r
+agrees-all {m = m} a s (then {p = p} g r) = agrees-all {m = step m p} (agrees_after a s g) (sound-after s g) r
 
 pub paid-all : {pay : Pay} {m : Machine} {js : List Job} {ps : List Part} → Agrees pay m js → Sound js → Replay js ps → (follow m ps).paid ≡ m.paid +ℤ paid pay js m.clock ps
 unfolding follow paid
 paid-all {m = m} a s over = sym (+ℤ_idr m.paid)
-paid-all {m = m} a s (then {p = p} g r) = rw (paid-all (agrees_after a s g) (sound-after s g) r, earnings-are a s g (m.clock + p.time), +ℤ_assoc)
+paid-all {m = m} a s (then {p = p} g r) = rw (paid-all {m = step m p} (agrees_after a s g) (sound-after s g) r, earnings-are a s g (m.clock + p.time), +ℤ_assoc)
 
 -- where every finish is inside its curve none is left unpaid
 pub unpaid-all : {pay : Pay} {m : Machine} {js : List Job} {ps : List Part} → Agrees pay m js → Sound js → Replay js ps → all_inside pay js m.clock ps ≡ true → (follow m ps).unpaid ≡ m.unpaid
@@ -98,7 +98,7 @@ unpaid-all {pay} {m} {js} a s (then {p = p} {ps = ps} g r) i =
     let here : defined (earns pay js p (m.clock + p.time)) ≡ true = (both (defined (earns pay js p (m.clock + p.time))) (all_inside pay (after js p) (m.clock + p.time) ps) i).0 in
     let rest : all_inside pay (after js p) (m.clock + p.time) ps ≡ true = (both (defined (earns pay js p (m.clock + p.time))) (all_inside pay (after js p) (m.clock + p.time) ps) i).1 in
     let none : (step m p).unpaid ≡ m.unpaid = rw (earnings-are a s g (m.clock + p.time), here) (omega arith) in
-    unpaid-all (agrees_after a s g) (sound-after s g) r rest ∙ none
+    unpaid-all {m = step m p} (agrees_after a s g) (sound-after s g) r rest ∙ none
 
 pub clock-all : (m : Machine) (ps : List Part) → (follow m ps).clock ≡ m.clock + lasts ps
 unfolding follow lasts

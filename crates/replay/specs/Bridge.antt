@@ -23,7 +23,7 @@ use Rattle.invariants.specs.Given.{grant_adds, grants_add as grants_reckoned}
 use Rattle.invariants.proofs.Given.{run_kept, rollback_kept, once-rollback}
 use Rattle.invariants.specs.Picked.{course_at}
 use Rattle.invariants.specs.Rounds.{Replayed}
-use Rattle.replay.specs.Machine.{MachineJob, Machine, follow}
+use Rattle.replay.specs.Machine.{MachineJob, Machine, step, follow}
 use Rattle.replay.specs.View.{left, view_of_machine}
 use Rattle.replay.specs.Same.{Same}
 use Rattle.replay.specs.Agree.{Agrees, time-left, agrees_after, earnings-are, agrees-all, paid-all, unpaid-all, clock-all}
@@ -39,7 +39,7 @@ same-adds s false = ap (λ (q : Request). q.rollback) s.request
 grants-are : {pay : Pay} {m : Machine} {js : List Job} {ps : List Part} (i : ℕ) → Agrees pay m js → Sound js → Replay js ps → grants_add i m ps ≡ grants_reckoned i js ps
 unfolding grants_add grants_reckoned
 grants-are i a s over = refl
-grants-are i a s (then {p = p} g r) = rw (same-adds (a.same p.job) p.rolling, grants-are i (agrees_after a s g) (sound-after s g) r)
+grants-are {m = m} i a s (then {p = p} g r) = rw (same-adds (a.same p.job) p.rolling, grants-are {m = step m p} i (agrees_after a s g) (sound-after s g) r)
 
 module _ {pay : Pay} {way : Way} {m : Machine} {js : List Job} {plan : Plan} (a : Agrees pay m js) (s : Sound js) (d : Replayed way pay js m.clock plan) (unpaid : (m.paid ≡ pos 0) × (m.unpaid ≡ 0)) (few : count_left js ≤ length m.jobs) where
   -- the planner's jobs before part k, and t milliseconds after the start

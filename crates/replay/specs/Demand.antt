@@ -19,7 +19,8 @@ use Rattle.invariants.proofs.Victims.{victims-on}
 use Rattle.invariants.proofs.Start.{ready-settled}
 use Rattle.invariants.proofs.Answer.{answer-replayed}
 use Rattle.opening.specs.Start.{jobs_from, pay_from}
-use Rattle.opening.specs.Sound.{job-past, sound-from}
+use Rattle.opening.specs.Sound.{job-past}
+use Rattle.opening.proofs.Sound.{sound-from}
 use Rattle.opening.specs.Falls.{settled-falls}
 use Rattle.opening.specs.Few.{few-left}
 use Rattle.opening.specs.Planned.{view_from, answer_from}

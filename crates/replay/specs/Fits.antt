@@ -17,7 +17,7 @@ use Rattle.invariants.specs.Replay.{Replay}
 use Rattle.invariants.specs.End.{Small}
 use Rattle.opening.specs.Small.{small-after-all}
 use Rattle.opening.specs.Planned.{view_from, answer_from}
-use Rattle.opening.specs.Opened.{accepted-opened}
+use Rattle.opening.proofs.Opened.{accepted-opened}
 use Rattle.replay.specs.Sentences.{part_at}
 use Rattle.replay.specs.Parts.{sound-all, parts-before, part-proper}
 use Rattle.replay.specs.ReadFields.{TimesFit, JobsFit}

@@ -13,7 +13,8 @@ use Rattle.gus.specs.View.{Pay}
 use Rattle.gus.specs.Victims.{sent_back, settled}
 use Rattle.laws.specs.Among.{Among}
 use Rattle.opening.specs.Start.{jobs_from, pay_from}
-use Rattle.opening.specs.Sound.{job_is, apart, sound-from}
+use Rattle.opening.specs.Sound.{job_is, apart}
+use Rattle.opening.proofs.Sound.{sound-from}
 use Rattle.replay.specs.Machine.{MachineJob, Machine, from_record, numbered, as_victim, with_victims, machine_from, job_of, finish_worth}
 use Rattle.replay.specs.Same.{Same}
 use Rattle.replay.specs.Agree.{Agrees, agrees-set}

@@ -24,7 +24,7 @@ sound-all s (then g r) = sound-all (sound-after s g) r
 pub parts-before : {js : List Job} {ps : List Part} (k : ℕ) → Replay js ps → Replay js (take k ps)
 parts-before zero r = over
 parts-before (suc k) over = over
-parts-before (suc k) (then g r) = then g (parts-before k r)
+parts-before {js = js} (suc k) (then {p = p} g r) = then g (parts-before {js = after js p} k r)
 
 pub part-proper : {js : List Job} {ps : List Part} (k : ℕ) → Replay js ps → k < length ps → Proper (after_all js (take k ps)) (part_at ps k)
 unfolding after_all
@@ -70,7 +70,7 @@ unfolding after_all
 rolling-stays {ps = ps} zero l s r kl h e = only_at ps l (rolling-kept (part_at ps l).job s r e) h refl
 rolling-stays (suc k) zero s r kl h e = absurd (not-suc-le-zero kl)
 rolling-stays (suc k) (suc l) s over kl h e = absurd (not-suc-le-zero h)
-rolling-stays (suc k) (suc l) s (then g r) kl h e = rolling-stays k l (sound-after s g) r (le_of_suc-le-suc kl) (le_of_suc-le-suc h) e
+rolling-stays {js = js} (suc k) (suc l) s (then {p = p} g r) kl h e = rolling-stays {js = after js p} k l (sound-after s g) r (le_of_suc-le-suc kl) (le_of_suc-le-suc h) e
 
 pub once-at : (ps : List Part) (k l : ℕ) → OnceRollback ps → k < l → l < length ps → (part_at ps l).job ≡ (part_at ps k).job → (part_at ps k).rolling ≡ true → (part_at ps l).rolling ≡ true
 once-at [] k l o kl h q e = absurd (not-suc-le-zero h)

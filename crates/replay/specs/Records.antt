@@ -8,7 +8,8 @@ use Rattle.book.specs.declared.Entry.{Entry}
 use Rattle.book.specs.declared.Record.{Record}
 use Rattle.book.specs.Format.{no_entry, empty_record}
 use Rattle.opening.specs.Start.{job_from}
-use Rattle.opening.specs.Held.{entry_at, Apart, Names, named-or-free, hold-entry, rollback-entry, hold-none}
+use Rattle.opening.specs.Held.{entry_at, Apart, Names, named-or-free}
+use Rattle.opening.proofs.HeldTheorems.{hold-entry, rollback-entry, hold-none}
 use Rattle.replay.specs.Machine.{from_record}
 use Rattle.replay.specs.View.{hold_on}
 use Rattle.replay.specs.Lists.{Distinct, unlisted}

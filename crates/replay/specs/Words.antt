@@ -13,7 +13,7 @@ use Rattle.invariants.proofs.Knot.{knot-is, knot-exactly}
 use Rattle.gus.specs.declared.Part.{Part}
 use Rattle.cursor.specs.Refusal.{KNOT}
 use Rattle.opening.specs.Planned.{view_from, answer_from}
-use Rattle.opening.specs.Opened.{accepted-opened}
+use Rattle.opening.proofs.Opened.{accepted-opened}
 use Rattle.planner.specs.declared.FirstPart.{FirstPart}
 use Rattle.planner.specs.Planned.{planned_of}
 use Rattle.planner.specs.First.{first_in}

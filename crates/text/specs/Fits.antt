@@ -14,7 +14,7 @@ use Rattle.laws.specs.Among.{Among}
 use Rattle.invariants.specs.Replay.{Replay, over, then, lasts}
 use Rattle.invariants.proofs.Victims.{victims-on}
 use Rattle.opening.specs.Planned.{view_from, answer_from}
-use Rattle.opening.specs.Opened.{accepted-opened}
+use Rattle.opening.proofs.Opened.{accepted-opened}
 use Rattle.planner.specs.LaidOut.{empty_part}
 use Rattle.planner.specs.Planned.{laid_plan, refused_plan}
 use Rattle.planner.specs.First.{first_in, first_of, laid-first}

@@ -10,11 +10,12 @@ use Rattle.gus.specs.Victims.{knot_of}
 use Rattle.invariants.specs.Sound.{Sound}
 use Rattle.invariants.specs.End.{Small}
 use Rattle.opening.specs.Start.{jobs_from, pay_from}
-use Rattle.opening.specs.Sound.{sound-from}
-use Rattle.opening.specs.Holders.{holders-agree}
+use Rattle.opening.proofs.Sound.{sound-from}
+use Rattle.opening.proofs.Holders.{holders-agree}
 use Rattle.opening.specs.Small.{small-from}
 use Rattle.opening.specs.Pay.{pay-within}
-use Rattle.opening.specs.Planned.{view_from, Planned, planned}
+use Rattle.opening.specs.Planned.{view_from, Planned}
+use Rattle.opening.proofs.Planned.{planned}
 
 pub record Opened (b : Book) : Type 0 where
   pub now : b.now ≤ 2147483647

@@ -10,7 +10,7 @@ use Rattle.gus.specs.State.{job_at}
 use Rattle.gus.specs.Waits.{holder_of}
 use Rattle.invariants.specs.Holders.{holder}
 use Rattle.opening.specs.Start.{jobs_from}
-use Rattle.opening.specs.Sound.{entry-holds, holds-entry, sound-from}
+use Rattle.opening.proofs.Sound.{entry-holds, holds-entry, sound-from}
 
 module _ {b : Book} (g : Good b) where
   -- who holds r is the holder of r
