@@ -31,7 +31,7 @@ fn main() {
         println!("cargo::rustc-cfg=no_archive");
         println!(
             "cargo::warning=target/staticlib/libilhuepatl.a is missing: run \
-             `rt staticlib ilhuepatl` at the repository root and build again"
+             `tools/archive` at the repository root and build again"
         );
     }
 }

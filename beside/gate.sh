@@ -26,7 +26,7 @@ run() {
 # second planner does.
 first_lines() {
     for book in examples/*.book; do
-        tools/run-program target/bin/listing --first <"$book"
+        tools/run-program crates/listing/out/listing --first <"$book"
     done
 }
 
@@ -39,9 +39,10 @@ second_first_lines() {
 {
     # An archive or a program left from an earlier state must not be compared,
     # so they are made here. It costs little where rt has just proved the crates.
-    rt check corpus listing
+    tools/prove listing
+    tools/prove corpus
     if [ "$machine" = x86_64 ]; then
-        rt staticlib ilhuepatl
+        tools/archive
     fi
     cargo test --quiet --release --offline --manifest-path second/Cargo.toml
     cargo build --release --offline --manifest-path beside/Cargo.toml

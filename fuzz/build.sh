@@ -5,7 +5,7 @@ cd "$(dirname "$0")"
 
 archive=../target/staticlib/libilhuepatl.a
 if [ ! -e "$archive" ]; then
-    echo "target/staticlib/libilhuepatl.a is missing: run 'rt staticlib ilhuepatl' at the repository root" >&2
+    echo "target/staticlib/libilhuepatl.a is missing: run 'tools/archive' at the repository root" >&2
     exit 2
 fi
 if ! command -v afl-clang-fast >/dev/null; then

@@ -1,4 +1,4 @@
-/* The planner's calls for C. Link target/staticlib/libilhuepatl.a, which `rt staticlib ilhuepatl` writes.
+/* The planner's calls for C. Link target/staticlib/libilhuepatl.a, which `tools/archive` writes.
    Every call ends, keeps nothing, allocates nothing and asks nothing of its caller but that the lengths are true.
    Book, curve and output may be any bytes of any length; book and output must not overlap. */
 #ifndef ILHUEPATL_H

@@ -74,7 +74,7 @@ mod face {
     fn missing() -> ! {
         let why = if cfg!(target_arch = "x86_64") {
             "target/staticlib/libilhuepatl.a was missing. Run \
-             `rt staticlib ilhuepatl` at the repository root and build again."
+             `tools/archive` at the repository root and build again."
         } else {
             "its archive is for x86-64 alone. On this machine beside-batch \
              compares the two planners."

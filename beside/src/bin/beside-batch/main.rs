@@ -2,7 +2,7 @@
 //! print what the proved planner says of them, as many at a time as it has room
 //! for, and compares every byte with what the second planner says. At the first
 //! difference it prints the book in hex and both lines and exits with 1. It is
-//! run at the repository root and needs `target/bin/corpus`, no archive.
+//! run at the repository root and needs `crates/corpus/out/corpus`, no archive.
 
 mod arguments;
 mod batch;

@@ -9,7 +9,7 @@ use std::process::{Child, Command, ExitStatus, Stdio};
 use std::time::{Duration, Instant};
 
 const RUNNER: &str = "tools/run-program";
-const PROGRAM: &str = "target/bin/corpus";
+const PROGRAM: &str = "crates/corpus/out/corpus";
 
 /// The runner's exit status where a program cannot be run.
 const CANNOT_RUN: i32 = 2;
@@ -51,7 +51,7 @@ impl Program {
     pub fn new() -> io::Result<Program> {
         Ok(Program {
             runner: found(RUNNER, "run it at the repository root")?,
-            program: found(PROGRAM, "`rt check corpus` makes it")?,
+            program: found(PROGRAM, "`tools/prove corpus` makes it")?,
         })
     }
 
