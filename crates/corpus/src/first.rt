@@ -2,40 +2,38 @@
 use crate::print;
 use crate::row::part;
 use planner::FirstPart;
+use std::io;
+use std::io::Write;
 
-fn first(f: FirstPart) {
+fn first(out: &mut impl Write, f: FirstPart) -> io::Result<()> {
     if !f.some {
-        print::text(b" nothing\n");
-        return;
+        return print::text(out, b" nothing\n");
     }
-    let p = f.part;
-    part(p);
-    print::text(b"\n");
+    part(out, f.part)?;
+    print::text(out, b"\n")
 }
 
-pub(crate) fn first_line(index: u64, book: &[u8]) {
+pub(crate) fn first_line(out: &mut impl Write, index: u64, book: &[u8]) -> io::Result<()> {
     let f = planner::first::first_part(book);
-    print::number(index);
-    print::text(b" first");
+    print::number(out, index)?;
+    print::text(out, b" first")?;
     if 0 < f.number {
-        print::refused(f.number, f.place);
-        return;
+        return print::refused(out, f.number, f.place);
     }
-    first(f);
+    first(out, f)
 }
 
 // So that this number is compared too where the archive can't be linked.
-pub(crate) fn word_line(index: u64, book: &[u8]) {
+pub(crate) fn word_line(out: &mut impl Write, index: u64, book: &[u8]) -> io::Result<()> {
     let word = ilhuepatl::calls::ilhuepatl_first(book);
-    print::number(index);
-    print::text(b" word ");
-    print::number(word);
-    print::text(b"\n");
+    print::number(out, index)?;
+    print::text(out, b" word ")?;
+    print::number(out, word)?;
+    print::text(out, b"\n")
 }
 
-pub(crate) fn first_text(book: &[u8]) {
+pub(crate) fn first_text(out: &mut impl Write, book: &[u8]) -> io::Result<()> {
     let mut space = [0u8; 32];
-    let out: &mut [u8] = &mut space;
-    let listed = text::first::write_first(book, out);
-    print::start(out, listed.length);
+    let listed = text::first::write_first(book, &mut space);
+    print::start(out, &space, listed.length)
 }

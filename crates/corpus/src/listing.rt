@@ -1,9 +1,10 @@
 // The listing's lines, as the listing program prints them.
 use crate::print;
+use std::io;
+use std::io::Write;
 
-pub(crate) fn listing_lines(bytes: &[u8]) {
+pub(crate) fn listing_lines(out: &mut impl Write, bytes: &[u8]) -> io::Result<()> {
     let mut space = [0u8; 4096];
-    let out: &mut [u8] = &mut space;
-    let listed = text::listing::write_listing(bytes, out);
-    print::start(out, listed.length);
+    let listed = text::listing::write_listing(bytes, &mut space);
+    print::start(out, &space, listed.length)
 }

@@ -11,44 +11,48 @@ mod row;
 mod worth;
 
 use crate::answer::wide;
+use std::fs::File;
+use std::io;
+use std::io::{BufWriter, Read, Write};
+
+// How many bytes of the file are read at most.
+const MOST: u64 = 65536;
 
 // The record question is asked for job 0, 1, 2, 3, 4, 0 and so on.
-fn book_lines(index: u64, bytes: &[u8]) {
-    answer::answer_line(index, bytes);
-    row::row_line(index, bytes);
-    record::record_line(index, bytes);
-    first::first_line(index, bytes);
-    first::word_line(index, bytes);
-    worth::worth_line(index, bytes);
-    listing::listing_lines(bytes);
-    first::first_text(bytes);
+fn book_lines(out: &mut impl Write, index: u64, bytes: &[u8]) -> io::Result<()> {
+    answer::answer_line(out, index, bytes)?;
+    row::row_line(out, index, bytes)?;
+    record::record_line(out, index, bytes)?;
+    first::first_line(out, index, bytes)?;
+    first::word_line(out, index, bytes)?;
+    worth::worth_line(out, index, bytes)?;
+    listing::listing_lines(out, bytes)?;
+    first::first_text(out, bytes)
 }
 
-fn lines(all: &[u8]) {
+fn lines(out: &mut impl Write, all: &[u8]) -> io::Result<()> {
     let mut place: usize = 0;
     let mut index: u64 = 0;
     while 2 <= all.len() - place {
         let n = wide(all[place]) * 256 + wide(all[place + 1]);
         let start = place + 2;
         if all.len() - start < n {
-            return;
+            return Ok(());
         }
         let end = start + n;
-        book_lines(index, &all[start..end]);
+        book_lines(out, index, &all[start..end])?;
         place = end;
-        index = std::num::wrapping_add_u64(index, 1);
+        index = index.wrapping_add(1);
     }
+    Ok(())
 }
 
-fn main() {
-    let path = b"books";
-    let file = os::open_read(path);
-    if file < 0 {
-        os::fail(path);
-        return;
-    }
-    let mut buffer = io::large_buffer();
-    let n = io::read_full(file, &mut buffer);
-    libc::close(file);
-    lines(&buffer[..n]);
+fn main(rt: HostRuntime) -> io::Result<()> {
+    let mut books = Vec::new(rt.alloc());
+    File::open(&rt, "books")?
+        .take(MOST)
+        .read_to_end(&mut books)?;
+    let mut out = BufWriter::new(rt.alloc(), io::writer(&rt))?;
+    lines(&mut out, &books)?;
+    out.flush()
 }

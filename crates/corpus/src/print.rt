@@ -1,56 +1,47 @@
-// Text, numbers and bytes on standard output.
-use libc::STDOUT_FILENO;
+// Text, numbers and bytes on the output.
+use std::io;
+use std::io::Write;
 
-pub(crate) fn text(s: &[u8]) {
-    io::write_all(STDOUT_FILENO, s);
+pub(crate) fn text(out: &mut impl Write, s: &[u8]) -> io::Result<()> {
+    out.write_all(s)
 }
 
-pub(crate) fn number(n: u64) {
-    io::print_decimal(STDOUT_FILENO, n);
+pub(crate) fn number(out: &mut impl Write, n: u64) -> io::Result<()> {
+    write!(out, "{n}")
 }
 
 // A number that may be below zero.
-pub(crate) fn signed(n: i32) {
-    if n < 0 {
-        text(b"-");
-        number((0 - (n as i64)) as u64);
-    } else {
-        number(n as u64);
-    }
+pub(crate) fn signed(out: &mut impl Write, n: i32) -> io::Result<()> {
+    write!(out, "{n}")
 }
 
-fn byte(n: u8) {
-    io::print_hex(STDOUT_FILENO, n as u64, 2);
+fn byte(out: &mut impl Write, n: u8) -> io::Result<()> {
+    write!(out, "{n:02x}")
 }
 
-pub(crate) fn hex(s: &[u8]) {
-    let mut i: usize = 0;
-    while i < s.len() {
-        byte(s[i]);
-        i += 1;
+pub(crate) fn hex(out: &mut impl Write, s: &[u8]) -> io::Result<()> {
+    for n in s {
+        byte(out, *n)?;
     }
+    Ok(())
 }
 
 // The bytes from start to end in hex; nothing where they are no part of s.
-pub(crate) fn part(s: &[u8], start: usize, end: usize) {
-    if start <= end {
-        if end <= s.len() {
-            hex(&s[start..end]);
-        }
+pub(crate) fn part(out: &mut impl Write, s: &[u8], start: usize, end: usize) -> io::Result<()> {
+    if start <= end && end <= s.len() {
+        hex(out, &s[start..end])?;
     }
+    Ok(())
 }
 
 // The first n bytes as they are; nothing where s has fewer.
-pub(crate) fn start(s: &[u8], n: usize) {
+pub(crate) fn start(out: &mut impl Write, s: &[u8], n: usize) -> io::Result<()> {
     if n <= s.len() {
-        text(&s[0..n]);
+        text(out, &s[0..n])?;
     }
+    Ok(())
 }
 
-pub(crate) fn refused(code: u8, place: usize) {
-    text(b" refused ");
-    number(code as u64);
-    text(b" at ");
-    number(place as u64);
-    text(b"\n");
+pub(crate) fn refused(out: &mut impl Write, code: u8, place: usize) -> io::Result<()> {
+    writeln!(out, " refused {code} at {place}")
 }

@@ -1,26 +1,26 @@
 // The line of the record question.
 use crate::print;
+use std::io;
+use std::io::Write;
 
 // The record's bytes; none is empty.
-fn record(part: &[u8]) {
+fn record(out: &mut impl Write, part: &[u8]) -> io::Result<()> {
     if part.len() == 0 {
-        print::text(b" none\n");
-        return;
+        return print::text(out, b" none\n");
     }
-    print::text(b" ");
-    print::hex(part);
-    print::text(b"\n");
+    print::text(out, b" ")?;
+    print::hex(out, part)?;
+    print::text(out, b"\n")
 }
 
-pub(crate) fn record_line(index: u64, bytes: &[u8]) {
+pub(crate) fn record_line(out: &mut impl Write, index: u64, bytes: &[u8]) -> io::Result<()> {
     let job = index % 5;
     let f = book::question::find_record(bytes, job as usize);
-    print::number(index);
-    print::text(b" record ");
-    print::number(job);
+    print::number(out, index)?;
+    print::text(out, b" record ")?;
+    print::number(out, job)?;
     if 0 < f.number {
-        print::refused(f.number, f.place);
-        return;
+        return print::refused(out, f.number, f.place);
     }
-    record(book::question::record_part(bytes, job as usize));
+    record(out, book::question::record_part(bytes, job as usize))
 }

@@ -2,68 +2,60 @@
 use crate::print;
 use gus::Part;
 use ilhuepatl::row::RowAnswer;
+use std::io;
+use std::io::Write;
 
-fn victims(list: [u8; 32], count: usize) {
-    print::text(b" victims");
-    let mut i: usize = 0;
-    while i < 32 {
-        if i < count {
-            print::text(b" ");
-            print::number(list[i] as u64);
-        }
-        i += 1;
+fn victims(out: &mut impl Write, list: [u8; 32], count: usize) -> io::Result<()> {
+    print::text(out, b" victims")?;
+    for job in list.iter().take(count) {
+        print::text(out, b" ")?;
+        print::number(out, *job as u64)?;
     }
+    Ok(())
 }
 
-fn mode(rolling: bool) {
+fn mode(out: &mut impl Write, rolling: bool) -> io::Result<()> {
     if rolling {
-        print::text(b" 1 ");
+        print::text(out, b" 1 ")
     } else {
-        print::text(b" 0 ");
+        print::text(out, b" 0 ")
     }
 }
 
-pub(crate) fn part(p: Part) {
-    print::text(b" ");
-    print::number(p.job as u64);
-    mode(p.rolling);
-    print::number(p.time as u64);
+pub(crate) fn part(out: &mut impl Write, p: Part) -> io::Result<()> {
+    print::text(out, b" ")?;
+    print::number(out, p.job as u64)?;
+    mode(out, p.rolling)?;
+    print::number(out, p.time as u64)
 }
 
-fn parts(list: [Part; 96], count: usize) {
-    print::text(b" parts");
-    let mut i: usize = 0;
-    while i < 96 {
-        if i < count {
-            let p = list[i];
-            part(p);
-        }
-        i += 1;
+fn parts(out: &mut impl Write, list: [Part; 96], count: usize) -> io::Result<()> {
+    print::text(out, b" parts")?;
+    for p in list.iter().take(count) {
+        part(out, *p)?;
     }
+    Ok(())
 }
 
-fn close(a: RowAnswer) {
-    print::text(b" rounds ");
-    print::number(a.rounds as u64);
-    print::text(b" total ");
-    print::signed(a.total);
-    print::text(b" end ");
-    print::number(a.end as u64);
-    print::text(b"\n");
+fn close(out: &mut impl Write, a: RowAnswer) -> io::Result<()> {
+    print::text(out, b" rounds ")?;
+    print::number(out, a.rounds as u64)?;
+    print::text(out, b" total ")?;
+    print::signed(out, a.total)?;
+    print::text(out, b" end ")?;
+    print::number(out, a.end as u64)?;
+    print::text(out, b"\n")
 }
 
-pub(crate) fn row_line(index: u64, book: &[u8]) {
+pub(crate) fn row_line(out: &mut impl Write, index: u64, book: &[u8]) -> io::Result<()> {
     let laid = ilhuepatl::row::plan_parts(book);
     let a = laid.answer;
-    print::number(index);
-    print::text(b" row");
+    print::number(out, index)?;
+    print::text(out, b" row")?;
     if 0 < a.number {
-        print::refused(a.number, a.place);
-        return;
+        return print::refused(out, a.number, a.place);
     }
-    let list = a.victims;
-    victims(list, a.victimcount);
-    let row = laid.parts;
-    parts(row, a.count);
-    close(a);
+    victims(out, a.victims, a.victimcount)?;
+    parts(out, laid.parts, a.count)?;
+    close(out, a)
 }

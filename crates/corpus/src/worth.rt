@@ -1,6 +1,8 @@
 // The line of the worth call: a part of the book, asked about at five moments, in the numbers that C gets.
 use crate::print;
 use cursor::field::value_at;
+use std::io;
+use std::io::Write;
 
 // As the call takes it; the last moment there is for a later one.
 fn moment(t: usize) -> u32 {
@@ -41,33 +43,31 @@ fn last_field(part: &[u8]) -> usize {
     0
 }
 
-fn word(part: &[u8], t: usize) {
+fn word(out: &mut impl Write, part: &[u8], t: usize) -> io::Result<()> {
     let n = ilhuepatl::calls::ilhuepatl_worth(part, moment(t));
-    print::text(b" ");
-    print::number(n);
+    print::text(out, b" ")?;
+    print::number(out, n)
 }
 
 // The first start stands after the piece count.
-fn words(part: &[u8]) {
+fn words(out: &mut impl Write, part: &[u8]) -> io::Result<()> {
     let first = value_at(part, 1, 4);
     let last = last_field(part);
-    word(part, before(first));
-    word(part, first);
-    word(part, halfway(first, last));
-    word(part, last);
-    word(part, after(last));
-    print::text(b"\n");
+    word(out, part, before(first))?;
+    word(out, part, first)?;
+    word(out, part, halfway(first, last))?;
+    word(out, part, last)?;
+    word(out, part, after(last))?;
+    print::text(out, b"\n")
 }
 
 // Of the bytes from start to end; of none where those are no part of the book.
-fn part_words(bytes: &[u8], start: usize, end: usize) {
-    if start <= end {
-        if end <= bytes.len() {
-            words(&bytes[start..end]);
-            return;
-        }
+fn part_words(out: &mut impl Write, bytes: &[u8], start: usize, end: usize) -> io::Result<()> {
+    if start <= end && end <= bytes.len() {
+        words(out, &bytes[start..end])
+    } else {
+        words(out, b"")
     }
-    words(b"");
 }
 
 // Where the curve begins in the record at start: after the held count and 5 bytes for each hold.
@@ -82,30 +82,33 @@ fn curve_place(bytes: &[u8], start: usize) -> usize {
 }
 
 // One third each: the whole curve, all but its last byte, and the curve with all that stands after it.
-fn curve_words(index: u64, bytes: &[u8], start: usize, end: usize) {
+fn curve_words(
+    out: &mut impl Write,
+    index: u64,
+    bytes: &[u8],
+    start: usize,
+    end: usize,
+) -> io::Result<()> {
     let first = curve_place(bytes, start);
     let third = index % 3;
     if third == 0 {
-        part_words(bytes, first, end);
-        return;
+        return part_words(out, bytes, first, end);
     }
     if third == 1 {
-        part_words(bytes, first, before(end));
-        return;
+        return part_words(out, bytes, first, before(end));
     }
-    part_words(bytes, first, bytes.len());
+    part_words(out, bytes, first, bytes.len())
 }
 
 // The curve of the job whose record the book's record line has. A book without that record is itself taken for a curve, from some byte on.
-pub(crate) fn worth_line(index: u64, bytes: &[u8]) {
+pub(crate) fn worth_line(out: &mut impl Write, index: u64, bytes: &[u8]) -> io::Result<()> {
     let job = index % 5;
     let f = book::question::find_record(bytes, job as usize);
-    print::number(index);
-    print::text(b" worth");
+    print::number(out, index)?;
+    print::text(out, b" worth")?;
     if 0 < f.end {
-        curve_words(index, bytes, f.start, f.end);
-        return;
+        return curve_words(out, index, bytes, f.start, f.end);
     }
     let start = index % 16;
-    part_words(bytes, start as usize, bytes.len());
+    part_words(out, bytes, start as usize, bytes.len())
 }

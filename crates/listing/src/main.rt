@@ -2,17 +2,22 @@
 // `--first` as its one argument, the text of the plan's first part (02, R-2). Both are proved text.
 #![tactic(auto)]
 
-ghost use Rattle.std.specs.Prelude.{◌≡◌, cond};
-ghost use Rattle.io.specs.Counts.{IsPrefixLen};
+ghost use Rattle.std.specs.Prelude.{◌≡◌, ◌≤◌, length, cond};
 ghost use Rattle.text.specs.Listing.{listing_outcome};
 ghost use Rattle.text.specs.First.{first_outcome};
 
-use libc::{STDERR_FILENO, STDIN_FILENO, STDOUT_FILENO};
+use std::env::FillError;
+use std::io;
+use std::io::{Input, Print, Read};
+use std::rt::Env;
+
+// How many bytes of standard input are read at most; a book has at most 65,535.
+const MOST: u64 = 65536;
 
 // The text that is asked for, and how many bytes it has.
 fn write_text(first: bool, book: &[u8], out: &mut [u8]) -> usize
     ensures value { (result ≡ (cond first (first_outcome book.now out.old) (listing_outcome book.now out.old)).listed.length) × (out.new ≡ (cond first (first_outcome book.now out.old) (listing_outcome book.now out.old)).out) }
-    ensures prefix_len { IsPrefixLen result out.new }
+    ensures prefix_len { result ≤ length out.new }
 {
     if first {
         let r = text::first::write_first(book, out);
@@ -22,35 +27,39 @@ fn write_text(first: bool, book: &[u8], out: &mut [u8]) -> usize
     r.length
 }
 
-fn print_text(first: bool) {
-    let mut book = io::large_buffer();
-    let n = io::read_full(STDIN_FILENO, &mut book);
-    let mut out = io::buffer();
-    let length = write_text(first, &book[..n], &mut out);
-    io::write_all(STDOUT_FILENO, &out[..length]);
+fn print_text(rt: &(impl Input + Print + Alloc), first: bool) -> io::Result<()> {
+    let mut book = Vec::new(rt.alloc());
+    rt.reader().take(MOST).read_to_end(&mut book)?;
+    let mut out = [0u8; 4096];
+    let length = write_text(first, &book, &mut out);
+    rt.write_all(&out[..length])
 }
 
-// Argument 0 is the program's name. A word that does not fit has length 0 here.
-fn asks_first() -> bool {
-    if os::arg_count() != 2 {
-        return false;
-    }
+// Argument 0 is the program's name.
+fn has_argument(rt: &impl Env, i: usize) -> bool {
+    !matches!(rt.arg(i, &mut []), Err(FillError::NotPresent))
+}
+
+// A word that does not fit is no `--first`.
+fn asks_first(rt: &impl Env) -> bool {
     let mut word = [0u8; 8];
-    let n = os::arg(1, &mut word);
-    check::same(&word[..n], b"--first")
+    match rt.arg(1, &mut word) {
+        Ok(n) => &word[..n] == b"--first".as_slice() && !has_argument(rt, 2),
+        Err(_) => false,
+    }
 }
 
-// A Rattle program has no exit status of its own, so this line is all that tells of a wrong argument.
-fn print_usage() {
-    io::write_all(STDERR_FILENO, b"usage: listing [--first] < BOOK\n");
+// The exit status is 0 here too, so this line is all that tells of a wrong argument.
+fn print_usage(rt: &impl Eprint) -> io::Result<()> {
+    eprintln!(rt; "usage: listing [--first] < BOOK")
 }
 
-fn main() {
-    if os::arg_count() < 2 {
-        print_text(false);
-    } else if asks_first() {
-        print_text(true);
+fn main(rt: HostRuntime) -> io::Result<()> {
+    if !has_argument(&rt, 1) {
+        print_text(&rt, false)
+    } else if asks_first(&rt) {
+        print_text(&rt, true)
     } else {
-        print_usage();
+        print_usage(&rt)
     }
 }

@@ -6,7 +6,12 @@ ghost use Rattle.std.specs.Prelude.{◌≤◌, length};
 
 use book::judge::judge;
 use book::question::{find_record, record_part};
-use libc::STDOUT_FILENO;
+use std::fs::File;
+use std::io;
+use std::io::{BufWriter, Read, Write};
+
+// How many bytes of the table are read at most.
+const MOST: u64 = 65536;
 
 #[derive(Clone, Copy)]
 pub struct Bytes {
@@ -14,45 +19,42 @@ pub struct Bytes {
     pub size: usize,
 }
 
-fn say(word: &[u8], number: u64) {
-    io::write_all(STDOUT_FILENO, word);
-    io::print_decimal(STDOUT_FILENO, number);
+fn say(out: &mut impl Write, word: &str, number: u64) -> io::Result<()> {
+    write!(out, "{word}{number}")
 }
 
-fn hex(byte: u8) {
-    io::print_hex(STDOUT_FILENO, byte as u64, 2);
+fn hex(out: &mut impl Write, byte: u8) -> io::Result<()> {
+    write!(out, "{byte:02x}")
 }
 
-fn refused(number: u8, place: usize) {
-    say(b"refused ", number as u64);
-    say(b" at ", place as u64);
+fn refused(out: &mut impl Write, number: u8, place: usize) -> io::Result<()> {
+    say(out, "refused ", number as u64)?;
+    say(out, " at ", place as u64)
 }
 
-fn read(book: &[u8]) {
+fn read(out: &mut impl Write, book: &[u8]) -> io::Result<()> {
     let b = judge(book);
     if 0 < b.number {
-        refused(b.number, b.place);
+        refused(out, b.number, b.place)
     } else {
-        say(b"accepted ", b.jobs as u64);
-        io::write_all(STDOUT_FILENO, b" jobs");
+        say(out, "accepted ", b.jobs as u64)?;
+        write!(out, " jobs")
     }
 }
 
-fn ask(book: &[u8], job: usize) {
+fn ask(out: &mut impl Write, book: &[u8], job: usize) -> io::Result<()> {
     let f = find_record(book, job);
     if 0 < f.number {
-        refused(f.number, f.place);
-        return;
+        return refused(out, f.number, f.place);
     }
     let part = record_part(book, job);
     if part.len() == 0 {
-        io::write_all(STDOUT_FILENO, b"none");
+        write!(out, "none")?;
     }
-    let mut i: usize = 0;
-    while i < part.len() {
-        hex(part[i]);
-        i += 1;
+    for byte in part {
+        hex(out, *byte)?;
     }
+    Ok(())
 }
 
 // The value of a hex digit, and 16 for any other character.
@@ -72,16 +74,12 @@ fn bytes_of(line: &[u8]) -> Bytes
 {
     let mut room = [0u8; 128];
     let mut digits: usize = 0;
-    let mut i: usize = 0;
-    while i < line.len() {
-        let d = digit(line[i]);
-        if d < 16 {
-            if digits < 256 {
-                room[digits / 2] = room[digits / 2] % 16 * 16 + d;
-                digits += 1;
-            }
+    for c in line {
+        let d = digit(*c);
+        if d < 16 && digits < 256 {
+            room[digits / 2] = room[digits / 2] % 16 * 16 + d;
+            digits += 1;
         }
-        i += 1;
     }
     Bytes {
         room,
@@ -93,18 +91,16 @@ fn bytes_of(line: &[u8]) -> Bytes
 fn find(s: &[u8], mark: u8) -> usize
     ensures { result ≤ length s.now }
 {
-    let mut i: usize = 0;
-    while i < s.len() {
-        if s[i] == mark {
+    for (i, byte) in s.iter().enumerate() {
+        if *byte == mark {
             return i;
         }
-        i += 1;
     }
-    i
+    s.len()
 }
 
 // Behind an @ the first byte is the job that the record question asks for.
-fn answer(bytes: Bytes, asked: bool)
+fn answer(out: &mut impl Write, bytes: Bytes, asked: bool) -> io::Result<()>
     requires { bytes.size ≤ length bytes.room }
 {
     let room = bytes.room;
@@ -112,46 +108,44 @@ fn answer(bytes: Bytes, asked: bool)
     let job = room[0] as usize;
     if asked {
         if 0 < n {
-            ask(&room[1..n], job);
+            ask(out, &room[1..n], job)?;
         }
+        Ok(())
     } else {
-        read(&room[0..n]);
+        read(out, &room[0..n])
     }
 }
 
 // A line without a colon is a heading.
-fn row(line: &[u8]) {
+fn row(out: &mut impl Write, line: &[u8]) -> io::Result<()> {
     let colon = find(line, b':');
     if colon < line.len() {
-        io::write_all(STDOUT_FILENO, &line[0..colon]);
-        io::write_all(STDOUT_FILENO, b": ");
+        out.write_all(&line[0..colon])?;
+        write!(out, ": ")?;
         let asked = find(line, b'@') < line.len();
-        answer(bytes_of(&line[colon..]), asked);
-        io::write_all(STDOUT_FILENO, b"\n");
+        answer(out, bytes_of(&line[colon..]), asked)?;
+        writeln!(out)?;
     }
+    Ok(())
 }
 
-fn rows(all: &[u8]) {
+fn rows(out: &mut impl Write, all: &[u8]) -> io::Result<()> {
     let mut start: usize = 0;
-    let mut i: usize = 0;
-    while i < all.len() {
-        if all[i] == b'\n' {
-            row(&all[start..i]);
+    for (i, byte) in all.iter().enumerate() {
+        if *byte == b'\n' {
+            row(out, &all[start..i])?;
             start = i + 1;
         }
-        i += 1;
     }
+    Ok(())
 }
 
-fn main() {
-    let path = b"books";
-    let file = os::open_read(path);
-    if file < 0 {
-        os::fail(path);
-        return;
-    }
-    let mut buffer = io::large_buffer();
-    let n = io::read_full(file, &mut buffer);
-    libc::close(file);
-    rows(&buffer[..n]);
+fn main(rt: HostRuntime) -> io::Result<()> {
+    let mut books = Vec::new(rt.alloc());
+    File::open(&rt, "books")?
+        .take(MOST)
+        .read_to_end(&mut books)?;
+    let mut out = BufWriter::new(rt.alloc(), io::writer(&rt))?;
+    rows(&mut out, &books)?;
+    out.flush()
 }
