@@ -11,12 +11,13 @@ mod row;
 mod worth;
 
 use crate::answer::wide;
+use input::read_full;
 use std::fs::File;
 use std::io;
-use std::io::{BufWriter, Read, Write};
+use std::io::Write;
 
 // How many bytes of the file are read at most.
-const MOST: u64 = 65536;
+const MOST: usize = 65536;
 
 // The record question is asked for job 0, 1, 2, 3, 4, 0 and so on.
 fn book_lines(out: &mut impl Write, index: u64, bytes: &[u8]) -> io::Result<()> {
@@ -48,11 +49,7 @@ fn lines(out: &mut impl Write, all: &[u8]) -> io::Result<()> {
 }
 
 fn main(rt: HostRuntime) -> io::Result<()> {
-    let mut books = Vec::new(rt.alloc());
-    File::open(&rt, "books")?
-        .take(MOST)
-        .read_to_end(&mut books)?;
-    let mut out = BufWriter::new(rt.alloc(), io::writer(&rt))?;
-    lines(&mut out, &books)?;
-    out.flush()
+    let mut books = [0u8; MOST];
+    let n = read_full(&mut File::open(&rt, "books")?, &mut books)?;
+    lines(&mut io::writer(&rt), &books[..n])
 }

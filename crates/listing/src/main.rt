@@ -6,13 +6,14 @@ ghost use Rattle.std.specs.Prelude.{◌≡◌, ◌≤◌, length, cond};
 ghost use Rattle.text.specs.Listing.{listing_outcome};
 ghost use Rattle.text.specs.First.{first_outcome};
 
+use input::read_full;
 use std::env::FillError;
 use std::io;
-use std::io::{Input, Print, Read};
+use std::io::{Input, Print};
 use std::rt::Env;
 
 // How many bytes of standard input are read at most; a book has at most 65,535.
-const MOST: u64 = 65536;
+const MOST: usize = 65536;
 
 // The text that is asked for, and how many bytes it has.
 fn write_text(first: bool, book: &[u8], out: &mut [u8]) -> usize
@@ -27,11 +28,11 @@ fn write_text(first: bool, book: &[u8], out: &mut [u8]) -> usize
     r.length
 }
 
-fn print_text(rt: &(impl Input + Print + Alloc), first: bool) -> io::Result<()> {
-    let mut book = Vec::new(rt.alloc());
-    rt.reader().take(MOST).read_to_end(&mut book)?;
+fn print_text(rt: &(impl Input + Print), first: bool) -> io::Result<()> {
+    let mut book = [0u8; MOST];
+    let n = read_full(&mut rt.reader(), &mut book)?;
     let mut out = [0u8; 4096];
-    let length = write_text(first, &book, &mut out);
+    let length = write_text(first, &book[..n], &mut out);
     rt.write_all(&out[..length])
 }
 

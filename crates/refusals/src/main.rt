@@ -6,12 +6,13 @@ ghost use Rattle.std.specs.Prelude.{◌≤◌, length};
 
 use book::judge::judge;
 use book::question::{find_record, record_part};
+use input::read_full;
 use std::fs::File;
 use std::io;
-use std::io::{BufWriter, Read, Write};
+use std::io::Write;
 
 // How many bytes of the table are read at most.
-const MOST: u64 = 65536;
+const MOST: usize = 65536;
 
 #[derive(Clone, Copy)]
 pub struct Bytes {
@@ -141,11 +142,7 @@ fn rows(out: &mut impl Write, all: &[u8]) -> io::Result<()> {
 }
 
 fn main(rt: HostRuntime) -> io::Result<()> {
-    let mut books = Vec::new(rt.alloc());
-    File::open(&rt, "books")?
-        .take(MOST)
-        .read_to_end(&mut books)?;
-    let mut out = BufWriter::new(rt.alloc(), io::writer(&rt))?;
-    rows(&mut out, &books)?;
-    out.flush()
+    let mut books = [0u8; MOST];
+    let n = read_full(&mut File::open(&rt, "books")?, &mut books)?;
+    rows(&mut io::writer(&rt), &books[..n])
 }

@@ -1,36 +1,32 @@
 -- The machine and the planner agree, job by job; each proper part keeps that, and pays what the planner reckons.
-use Rattle.std.specs.Prelude.{◌≡◌, refl, Bool, true, false, List, [], ◌∷◌, ℕ, ◌+◌, ◌<◌, ◌≤◌, ℤ, ◌+ℤ◌, length, set}
-use Rattle.std.proofs.Common.{sym, ap, ◌∙◌, arith, get_or-set_same, get_or-set_other, eq-eqb, ne_eqb}
+use Rattle.std.specs.Prelude.{◌≡◌, refl, Bool, true, false, List, [], ◌∷◌, ℕ, ◌+◌, ◌<◌, ◌≤◌, ℤ, length, set}
+use Rattle.std.proofs.Common.{ap, ◌∙◌, arith, get_or-set_same, get_or-set_other, eq-eqb, ne_eqb}
 use Rattle.std.proofs.Math.Decide.{ℕ_discrete, dec_lt}
-use Rattle.std.proofs.Math.IntN.{+ℤ_assoc, +ℤ_idr}
 use Rattle.std.proofs.Math.ListN.{get_or-eq_default}
 use Rattle.curve.specs.declared.Curve.{Curve}
-use Rattle.curve.specs.Worth.{worth_at, defined}
+use Rattle.curve.specs.Worth.{worth_at}
 use Rattle.job.specs.declared.Job.{Job}
 use Rattle.job.specs.Job.{left_in}
 use Rattle.gus.specs.declared.Part.{Part}
-use Rattle.gus.specs.State.{vacant, job_at, worked_by, after, after_all}
+use Rattle.gus.specs.State.{vacant, job_at}
 use Rattle.gus.specs.View.{Pay}
-use Rattle.invariants.specs.Sound.{Sound}
-use Rattle.invariants.specs.Proper.{Proper, sound-after}
-use Rattle.invariants.specs.Replay.{Replay, over, then, lasts, earns, paid, all_inside, both}
-use Rattle.replay.specs.Machine.{MachineJob, Machine, no_machine_job, job_of, with_request, given, time_left, finish_worth, earnings, part_job, step, follow}
+use Rattle.invariants.specs.Replay.{lasts, paid}
+use Rattle.replay.specs.Machine.{MachineJob, Machine, no_machine_job, job_of, with_request, given, time_left, finish_worth, step, follow}
 use Rattle.replay.specs.Same.{Same}
-use Rattle.replay.specs.Granted.{same-worked}
 
 pub record Agrees (pay : Pay) (m : Machine) (js : List Job) : Type 0 where
   pub same : (i : ℕ) → Same (job_of m i) (job_at js i)
   pub worth : (b : Bool) (i t : ℕ) → finish_worth b (job_of m i) t ≡ pay b i t
 
 -- a job that has run time is one of the machine's
-numbered_below : (m : Machine) (i : ℕ) → 1 ≤ (job_of m i).run → i < length m.jobs
+pub numbered_below : (m : Machine) (i : ℕ) → 1 ≤ (job_of m i).run → i < length m.jobs
 numbered_below m i h = elim (dec_lt i (length m.jobs)) [
   | yes l ↦ l
   | no l ↦ absurd (omega (arith, ap (λ (j : MachineJob). j.run) (get_or-eq_default m.jobs no_machine_job {n = i} (omega arith))))
 ]
 
 -- a part leaves the curve as it is
-curve-kept : (b : Bool) (n : ℕ) (j : MachineJob) → (given b n j).curve ≡ j.curve
+pub curve-kept : (b : Bool) (n : ℕ) (j : MachineJob) → (given b n j).curve ≡ j.curve
 unfolding with_request
 curve-kept true n j = refl
 curve-kept false n j = elim (ℕ_discrete j.request.resource 255) [
@@ -39,7 +35,7 @@ curve-kept false n j = elim (ℕ_discrete j.request.resource 255) [
 ]
 
 -- and the curve is all that a finish is worth by
-worth-kept : (b : Bool) (t : ℕ) (j k : MachineJob) → j.curve ≡ k.curve → finish_worth b j t ≡ finish_worth b k t
+pub worth-kept : (b : Bool) (t : ℕ) (j k : MachineJob) → j.curve ≡ k.curve → finish_worth b j t ≡ finish_worth b k t
 worth-kept true t j k e = refl
 worth-kept false t j k e = ap (λ (curve : Curve). worth_at curve t) e
 
@@ -61,44 +57,6 @@ module _ {pay : Pay} {m : Machine} {js : List Job} (i : ℕ) (x : MachineJob) (y
       | no ne ↦ rw (get_or-set_other m.jobs i k x no_machine_job ne) (a.worth b k t)
     ];
   }
-
--- ONE PROPER PART
-module _ {pay : Pay} {m : Machine} {js : List Job} {p : Part} (a : Agrees pay m js) (s : Sound js) (g : Proper js p) where
-  same-part : Same (part_job m p) (worked_by js p)
-  same-part = same-worked (a.same p.job) (s.fit p.job) (g.free.at p.job) p.rolling p.time
-
-  pub agrees_after : Agrees pay (step m p) (after js p)
-  agrees_after =
-      let below = numbered_below m p.job (omega (arith, (a.same p.job).run, g.alive.run_some)) in
-      agrees-set p.job (part_job m p) (worked_by js p) (step m p).clock (step m p).paid (step m p).unpaid below (omega (arith, s.size, g.alive.there)) same-part (curve-kept p.rolling p.time (job_of m p.job)) a
-
-  -- what it earns on the machine is what the planner reckons
-  pub earnings-are : (moment : ℕ) → earnings p.rolling (part_job m p) moment ≡ earns pay js p moment
-  unfolding earnings earns
-  earnings-are moment =
-      let worth = worth-kept p.rolling moment (part_job m p) (job_of m p.job) (curve-kept p.rolling p.time (job_of m p.job)) ∙ a.worth p.rolling p.job moment in
-      rw (time-left same-part p.rolling, worth)
-
--- A ROW OF THEM
-pub agrees-all : {pay : Pay} {m : Machine} {js : List Job} {ps : List Part} → Agrees pay m js → Sound js → Replay js ps → Agrees pay (follow m ps) (after_all js ps)
-unfolding follow after_all
-agrees-all a s over = a
-agrees-all {m = m} a s (then {p = p} g r) = agrees-all {m = step m p} (agrees_after a s g) (sound-after s g) r
-
-pub paid-all : {pay : Pay} {m : Machine} {js : List Job} {ps : List Part} → Agrees pay m js → Sound js → Replay js ps → (follow m ps).paid ≡ m.paid +ℤ paid pay js m.clock ps
-unfolding follow paid
-paid-all {m = m} a s over = sym (+ℤ_idr m.paid)
-paid-all {m = m} a s (then {p = p} g r) = rw (paid-all {m = step m p} (agrees_after a s g) (sound-after s g) r, earnings-are a s g (m.clock + p.time), +ℤ_assoc)
-
--- where every finish is inside its curve none is left unpaid
-pub unpaid-all : {pay : Pay} {m : Machine} {js : List Job} {ps : List Part} → Agrees pay m js → Sound js → Replay js ps → all_inside pay js m.clock ps ≡ true → (follow m ps).unpaid ≡ m.unpaid
-unfolding follow all_inside
-unpaid-all a s over i = refl
-unpaid-all {pay} {m} {js} a s (then {p = p} {ps = ps} g r) i =
-    let here : defined (earns pay js p (m.clock + p.time)) ≡ true = (both (defined (earns pay js p (m.clock + p.time))) (all_inside pay (after js p) (m.clock + p.time) ps) i).0 in
-    let rest : all_inside pay (after js p) (m.clock + p.time) ps ≡ true = (both (defined (earns pay js p (m.clock + p.time))) (all_inside pay (after js p) (m.clock + p.time) ps) i).1 in
-    let none : (step m p).unpaid ≡ m.unpaid = rw (earnings-are a s g (m.clock + p.time), here) (omega arith) in
-    unpaid-all {m = step m p} (agrees_after a s g) (sound-after s g) r rest ∙ none
 
 pub clock-all : (m : Machine) (ps : List Part) → (follow m ps).clock ≡ m.clock + lasts ps
 unfolding follow lasts

@@ -1,7 +1,7 @@
 -- The book of case 5: it is accepted and has no knot, so demand 3 holds of it. What is read of its answer, the machine on it, and on parts
 -- that make no sense; a late job that can't be rolled back; and the empty plan of case 2.
 use Rattle.std.specs.Prelude.{◌≡◌, refl, true, false, List, [], ◌∷◌, ℕ, pos, nat_abs, replicate}
-use Rattle.std.proofs.Common.{sym, ap, ◌∙◌, true≢false, arith}
+use Rattle.std.proofs.Common.{ap, true≢false, arith}
 use Rattle.laws.specs.Count.{upto}
 use Rattle.curve.specs.declared.Curve.{Curve}
 use Rattle.curve.specs.Worth.{no_piece, worth_in, worth_at}
@@ -31,12 +31,9 @@ use Rattle.replay.specs.Machine.{MachineJob, Machine, nothing, with_victims, mac
 use Rattle.replay.specs.View.{lists, hold_on, holder_from as machine_holder, view_of_machine}
 use Rattle.replay.specs.Moments.{done_by}
 use Rattle.replay.specs.Sentences.{Demand3}
-use Rattle.replay.specs.Demand.{demand3}
-use Rattle.replay.specs.ReadBack.{read_answer}
-use Rattle.replay.specs.Whole.{certain}
 use Rattle.replay.specs.Refuses.{Given, small, reader, knot, none, given_out}
 
-five : List ℕ
+pub five : List ℕ
 five =
     0 ∷ 66 ∷ 1 ∷ 2 ∷ 1 ∷ 0 ∷ 0 ∷ 0 ∷ 0
     ∷ 0 ∷ 0 ∷ 6 ∷ 0 ∷ 2 ∷ 255 ∷ 0 ∷ 0 ∷ 0 ∷ 0 ∷ 1 ∷ 0 ∷ 0 ∷ 6 ∷ 0 ∷ 2 ∷ 1 ∷ 0 ∷ 0 ∷ 0 ∷ 0 ∷ 0 ∷ 0 ∷ 0 ∷ 0 ∷ 0 ∷ 0 ∷ 0 ∷ 0 ∷ 0 ∷ 100
@@ -68,27 +65,23 @@ book = record {
   spans = record { start = 9; end = 40 } ∷ record { start = 40; end = 66 } ∷ replicate 30 empty_span;
 }
 
-book-read : book_of five ≡ book
+pub book-read : book_of five ≡ book
 unfolding five book_of refused_book accepted_book header_of records_read no_records record_next record_read tail_read rollback_read request_read requested_resource requested_rollback held_read entry_next entry_read held_resource unheld_read curve_read pieces_read piece_next piece_read start_read signed_read end_read field_of rule_of read_at judged value_at upto rollback_ok request_ok if_requested least_rollback mode_ok signed_of around_ok line_ok
 book-read = refl
 
-knot-none : knot_of (view_from book) 0 ≡ 255
+pub knot-none : knot_of (view_from book) 0 ≡ 255
 unfolding held_from job_from knot_of knot_to victim_of offer lesser loss_of circle_of circle_from denser denser_than holder_from upto
 knot-none = refl
 
--- THE HYPOTHESES CAN BE MET
-case5 : Demand3 by_density (machine_from (book_of five) (answer_from (book_of five)).victims) (answer_from (book_of five)).plan
-case5 = demand3 five (rw book-read) (rw book-read (omega (arith, knot-none)))
-
-answer : answer_from book ≡ record { victims = []; plan = record { parts = part_of 0 true 2 ∷ part_of 1 false 5 ∷ []; rounds = 1; total = pos 22; end = 7 } }
+pub answer : answer_from book ≡ record { victims = []; plan = record { parts = part_of 0 true 2 ∷ part_of 1 false 5 ∷ []; rounds = 1; total = pos 22; end = 7 } }
 unfolding held_from job_from worth_at worth_in answer_to victims_of victims_to victim_of offer lesser loss_of circle_of circle_from settled rounds best_of consider offered better group_of grow by_density preferred reckon to_free to_end onward earned denser denser_than chain_of chain_to holder_from after_all upto granted ran rolled_back
 answer = refl
 
 -- FROM BYTES TO BYTES AND BACK: what a reader finds in an output of 430 nines after the call
-abbrev nines : List ℕ
+abbrev pub nines : List ℕ
 nines = replicate 430 9
 
-unrefused : (outcome_of five nines).verdict.number ≡ 0
+pub unrefused : (outcome_of five nines).verdict.number ≡ 0
 unrefused = by (given_out five nines)
   where
     by : {v : Verdict} → Given five 430 430 v → v.number ≡ 0
@@ -97,14 +90,11 @@ unrefused = by (given_out five nines)
     by (knot l e h) = absurd (omega (arith, rw book-read at h, knot-none))
     by (none l e h) = refl
 
-read_back : read_answer (outcome_of five nines).out ≡ record { victims = []; plan = record { parts = part_of 0 true 2 ∷ part_of 1 false 5 ∷ []; rounds = 1; total = pos 22; end = 7 } }
-read_back = (certain five nines unrefused).answer.is ∙ ap answer_from book-read ∙ answer
-
 -- THE MACHINE ON IT: where it starts,
-abbrev start : Machine
+abbrev pub start : Machine
 start = machine_from book []
 
-abbrev waiting : MachineJob
+abbrev pub waiting : MachineJob
 waiting = record { rolling = false; run = 5; rollback = 1; request = asks_r0; holds = []; curve = flat 22 }
 
 starts : start ≡ record { clock = 0; paid = pos 0; unpaid = 0; jobs = record { rolling = false; run = 6; rollback = 2; request = nothing; holds = r0 6 2 ∷ []; curve = flat 0 } ∷ waiting ∷ [] }
@@ -112,12 +102,8 @@ unfolding with_victims
 starts = refl
 
 -- after the rollback part, which is not paid and frees r0,
-abbrev undone : MachineJob
+abbrev pub undone : MachineJob
 undone = record { rolling = true; run = 6; rollback = 0; request = nothing; holds = []; curve = flat 0 }
-
-rolls-back : follow start (part_of 0 true 2 ∷ []) ≡ record { clock = 2; paid = pos 0; unpaid = 0; jobs = undone ∷ waiting ∷ [] }
-unfolding with_victims follow still_held earnings
-rolls-back = refl
 
 -- and after the normal one, which is given r0 and is paid at 7
 finishes : follow start (part_of 0 true 2 ∷ part_of 1 false 5 ∷ []) ≡ record { clock = 7; paid = pos 22; unpaid = 0; jobs = undone ∷ record { rolling = false; run = 0; rollback = 2; request = nothing; holds = []; curve = flat 22 } ∷ [] }
@@ -152,21 +138,18 @@ unfolding with_victims follow with_request still_held earnings lists done_by
 shared d = let e : ◌≡◌ {A = ℕ} 0 1 = d.one_holder 2 0 1 0 refl refl in omega arith
 
 -- and the same parts begun at 94, where job 1 finishes at 101: outside its curve, so that it is not paid
-abbrev later : Machine
+abbrev pub later : Machine
 later = record { clock = 94; paid = pos 0; unpaid = 0; jobs = start.jobs }
 
-abbrev too_late : Plan
+abbrev pub too_late : Plan
 too_late = record { parts = part_of 0 true 2 ∷ part_of 1 false 5 ∷ []; rounds = 1; total = pos 0; end = 101 }
 
-not-paid : (follow later too_late.parts).unpaid ≡ 1
+pub not-paid : (follow later too_late.parts).unpaid ≡ 1
 unfolding with_victims follow with_request still_held earnings worth_at worth_in
 not-paid = refl
 
-outside : Demand3 by_density later too_late → ⊥
-outside d = let e : ◌≡◌ {A = ℕ} 1 0 = sym not-paid ∙ d.none_unpaid in omega arith
-
 -- A LATE JOB THAT CAN'T BE ROLLED BACK (R-7): job 0 holds r0 until it ends at 10, and its curve ends at 8; job 1 asks for r0
-late : List ℕ
+pub late : List ℕ
 late =
     0 ∷ 66 ∷ 1 ∷ 2 ∷ 1 ∷ 0 ∷ 0 ∷ 0 ∷ 0
     ∷ 0 ∷ 0 ∷ 10 ∷ 255 ∷ 255 ∷ 255 ∷ 0 ∷ 0 ∷ 0 ∷ 0 ∷ 1 ∷ 0 ∷ 0 ∷ 10 ∷ 255 ∷ 255 ∷ 1 ∷ 0 ∷ 0 ∷ 0 ∷ 0 ∷ 0 ∷ 0 ∷ 0 ∷ 5 ∷ 0 ∷ 0 ∷ 0 ∷ 0 ∷ 0 ∷ 8
@@ -176,7 +159,7 @@ late =
 abbrev until8 : Curve
 until8 = record { pieces = record { start = 0; value = pos 5; slope = pos 0 } ∷ replicate 7 no_piece; count = 1; end = 8 }
 
-abbrev late_book : Book
+abbrev pub late_book : Book
 late_book = record {
   number = 0;
   place = 0;
@@ -191,23 +174,17 @@ late_book = record {
   spans = record { start = 9; end = 40 } ∷ record { start = 40; end = 66 } ∷ replicate 30 empty_span;
 }
 
-late-read : book_of late ≡ late_book
+pub late-read : book_of late ≡ late_book
 unfolding late book_of refused_book accepted_book header_of records_read no_records record_next record_read tail_read rollback_read request_read requested_resource requested_rollback held_read entry_next entry_read held_resource unheld_read curve_read pieces_read piece_next piece_read start_read signed_read end_read field_of rule_of read_at judged value_at upto rollback_ok request_ok if_requested least_rollback mode_ok signed_of around_ok line_ok
 late-read = refl
 
-late-knot : knot_of (view_from late_book) 0 ≡ 255
+pub late-knot : knot_of (view_from late_book) 0 ≡ 255
 unfolding held_from job_from knot_of knot_to victim_of offer lesser loss_of circle_of circle_from denser denser_than holder_from upto
 late-knot = refl
 
-late-answer : answer_from late_book ≡ record { victims = []; plan = stop 0 }
+pub late-answer : answer_from late_book ≡ record { victims = []; plan = stop 0 }
 unfolding held_from job_from worth_at worth_in answer_to victims_of victims_to victim_of offer lesser loss_of circle_of circle_from settled rounds best_of consider offered better group_of grow by_density preferred reckon to_free to_end onward earned denser denser_than chain_of chain_to holder_from after_all upto granted ran rolled_back
 late-answer = refl
-
--- nothing is planned, and that keeps demand 3:
-late-empty : Demand3 by_density (machine_from late_book []) (stop 0)
-late-empty =
-    let d = demand3 late (rw late-read) (rw late-read (omega (arith, late-knot))) in
-    rw (late-read, late-answer) at d
 
 -- the group of job 1 is worth 22, and it is no candidate
 late-group : (group_of by_density (view_of_machine (machine_from late_book [])) 0 1).course ≡ record { time = 15; gain = pos 22; inside = false }

@@ -2,7 +2,6 @@
 use Rattle.std.specs.Prelude.{◌≡◌, refl, List, [], ◌∷◌, ℕ, ◌<◌, ◌≤◌}
 use Rattle.cursor.specs.Refusal.{KNOT}
 use Rattle.book.specs.Format.{book_of}
-use Rattle.accepted.specs.Layout.{Bytes}
 use Rattle.gus.specs.declared.Part.{Part}
 use Rattle.gus.specs.Choice.{by_density}
 use Rattle.opening.specs.Planned.{answer_from}
@@ -10,9 +9,7 @@ use Rattle.planner.specs.declared.Planned.{Planned}
 use Rattle.planner.specs.declared.FirstPart.{FirstPart}
 use Rattle.planner.specs.Planned.{planned_of}
 use Rattle.planner.specs.First.{first_in, refused_first, nothing, found, first_of, refused-first, laid-first}
-use Rattle.ilhuepatl.specs.Calls.{verdict_of}
 use Rattle.planner.specs.Ends.{knot_in, Ends, refuses, knots, answers, ends}
-use Rattle.replay.specs.Refuses.{Refuses, planned-refuses}
 
 -- the four ways, by the reader, the knot and the plan of 000 under 01
 pub data FirstGiven (s : List ℕ) : FirstPart → Type 0 where
@@ -33,8 +30,3 @@ first-given s = by (planned_of s) (ends 32 by_density s)
         parts : (ps : List Part) → (answer_from (book_of s)).plan.parts ≡ ps → FirstGiven s (first_of ps)
         parts [] q = empty e l q
         parts (p ∷ ps) q = first p ps e l q
-
--- REFUSED ALIKE, and never for want of room
-pub first-refuses : (s : List ℕ) → Bytes s → Refuses s 0 0 (verdict_of (first_in (planned_of s)).number (first_in (planned_of s)).place)
-unfolding first_in
-first-refuses s b = planned-refuses s b

@@ -2,23 +2,23 @@
 use Rattle.std.specs.Prelude.{◌≡◌, refl, Bool, true, false, cond, ◌||◌, List, [], ◌∷◌, map, ℕ, ◌+◌, ◌<◌, ◌≤◌, eqb}
 use Rattle.std.proofs.Math.Path.{sym, ap}
 use Rattle.std.proofs.Common.{◌∙◌, inl, inr, arith}
-use Rattle.std.proofs.Math.Decide.{ℕ_discrete, dec_lt}
-use borrow.Author.Tests.{eq-eqb, ne_eqb, le-ltb, lt-ltb}
+use Rattle.std.proofs.Math.Decide.{ℕ_discrete}
+use borrow.Author.Tests.{lt-ltb}
 use Rattle.job.specs.declared.Request.{Request}
 use Rattle.job.specs.declared.Job.{Job}
-use Rattle.job.specs.Times.{never, plus, or_never, either-or-neither, le-or-never}
-use Rattle.job.specs.Job.{hold_of, rollback_of, all_never, granted, worked}
-use Rattle.job.specs.Grant.{granted-none, granted-run, granted-rolling, granted-rollback, granted-gone, hold-granted-new, rollback-granted-new}
+use Rattle.job.specs.Times.{never, plus, or_never, either-or-neither}
+use Rattle.job.specs.Job.{hold_of, rollback_of, all_never, granted}
+use Rattle.job.specs.Grant.{hold-granted-new, rollback-granted-new}
 use Rattle.job.proofs.Grant.{hold-granted, rollback-granted}
 use Rattle.job.specs.Fit.{Ask, Fit}
 use Rattle.book.specs.declared.Entry.{Entry}
-use Rattle.replay.specs.Machine.{MachineJob, longer, longer_hold, new_hold, with_request, given}
+use Rattle.replay.specs.Machine.{MachineJob, longer, longer_hold, new_hold}
 use Rattle.replay.specs.View.{lists, hold_on}
-use Rattle.replay.specs.Lists.{Some, hold-here, hold-on, unlisted, lists-map, distinct-map, hold-map}
-use Rattle.replay.specs.Same.{Same, same_lists, same-ran, same-rolled_back}
+use Rattle.replay.specs.Lists.{Some, hold-here, hold-on, unlisted, lists-map, hold-map}
+use Rattle.replay.specs.Same.{Same, same_lists}
 
 -- longer holds have some time
-longer-some : (m : MachineJob) (es : List Entry) → Some es → Some (map (longer_hold m) es)
+pub longer-some : (m : MachineJob) (es : List Entry) → Some es → Some (map (longer_hold m) es)
 longer-some m [] s = tt
 longer-some m (e ∷ es) s = (s.0, go (eqb m.rollback never || eqb m.request.rollback never), longer-some m es s.2)
   where
@@ -27,27 +27,27 @@ longer-some m (e ∷ es) s = (s.0, go (eqb m.rollback never || eqb m.request.rol
     go false = omega (arith, s.1)
 
 module _ {m : MachineJob} {j : Job} (s : Same m j) (f : Fit j) (l : j.request.resource < 32) (free : hold_of j j.request.resource ≡ 0) where
-  ask : Ask j
+  pub ask : Ask j
   ask = f.asks l
 
-  resource : m.request.resource ≡ j.request.resource
+  pub resource : m.request.resource ≡ j.request.resource
   resource = ap (λ (q : Request). q.resource) s.request
 
   -- "If either is never, all are never", and the sum of two that are not stays below never
-  longer-is : (x : ℕ) → x ≤ j.rollback → longer m x ≡ or_never (all_never j) (plus x j.request.rollback)
+  pub longer-is : (x : ℕ) → x ≤ j.rollback → longer m x ≡ or_never (all_never j) (plus x j.request.rollback)
   longer-is x h = rw (s.rollback, s.request) (elim (either-or-neither f.most ask.rollback_most) [
     | inl t ↦ rw t
     | inr t ↦ rw t.0 (omega (arith, ask.sum_below t.1 t.2))
   ])
 
-  new_is : longer m 0 ≡ or_never (all_never j) j.request.rollback
+  pub new_is : longer m 0 ≡ or_never (all_never j) j.request.rollback
   new_is = longer-is 0 (omega arith) ∙ ap (or_never (all_never j)) (omega (arith, ask.rollback_most))
 
   -- the new hold, and the others
   abbrev new : List Entry
   new = new_hold m ∷ map (longer_hold m) m.holds
 
-  granted-hold : (r : ℕ) → (hold_on new r).hold ≡ hold_of (granted j) r
+  pub granted-hold : (r : ℕ) → (hold_on new r).hold ≡ hold_of (granted j) r
   granted-hold r = elim (ℕ_discrete r j.request.resource) [
     | yes e ↦ ap (λ (x : Entry). x.hold) (hold-here (new_hold m) (map (longer_hold m) m.holds) r (resource ∙ sym e)) ∙ ap (λ (q : Request). q.hold) s.request ∙ sym (hold-granted-new j l f.size e)
     | no ne ↦
@@ -61,7 +61,7 @@ module _ {m : MachineJob} {j : Job} (s : Same m j) (f : Fit j) (l : j.request.re
       go true y = ap (λ (x : Entry). x.hold) (hold-map (longer_hold m) (λ e. refl) m.holds r y)
       go false n = rw (unlisted (map (longer_hold m) m.holds) r (lists-map (longer_hold m) (λ e. refl) m.holds r ∙ n), unlisted m.holds r n)
 
-  granted-undo : (r : ℕ) → 0 < hold_of (granted j) r → (hold_on new r).rollback ≡ rollback_of (granted j) r
+  pub granted-undo : (r : ℕ) → 0 < hold_of (granted j) r → (hold_on new r).rollback ≡ rollback_of (granted j) r
   granted-undo r h = elim (ℕ_discrete r j.request.resource) [
     | yes e ↦ ap (λ (x : Entry). x.rollback) (hold-here (new_hold m) (map (longer_hold m) m.holds) r (resource ∙ sym e)) ∙ new_is ∙ sym (rollback-granted-new j l f.size e)
     | no ne ↦
@@ -72,31 +72,3 @@ module _ {m : MachineJob} {j : Job} (s : Same m j) (f : Fit j) (l : j.request.re
         ∙ longer-is (rollback_of j r) (f.rollbacks r)
         ∙ sym (rollback-granted j l r ne k)
   ]
-
-  same-given : Same (with_request m) (granted j)
-  unfolding with_request
-  same-given = rw (ne_eqb m.request.resource 255 (λ e. absurd (omega (arith, resource)))) (record {
-    rolling = s.rolling ∙ sym (granted-rolling j);
-    run = s.run ∙ sym (granted-run j);
-    rollback = ap (longer m) s.rollback ∙ longer-is j.rollback (omega arith) ∙ sym (granted-rollback j l);
-    request = sym (granted-gone j l);
-    hold = granted-hold;
-    undo = granted-undo;
-    distinct = (lists-map (longer_hold m) (λ e. refl) m.holds m.request.resource ∙ same_lists s m.request.resource ∙ le-ltb 0 (hold_of j m.request.resource) (omega (arith, ap (hold_of j) resource)), distinct-map (longer_hold m) (λ e. refl) m.holds s.distinct);
-    some = (omega (arith, ap (λ (q : Request). q.hold) s.request, ask.hold_some), omega (arith, new_is, le-or-never (all_never j) ask.rollback_most, ask.rollback_some), longer-some m m.holds s.some);
-  })
-
-module _ {m : MachineJob} {j : Job} (s : Same m j) (f : Fit j) (free : hold_of j j.request.resource ≡ 0) where
-  same-granted : Same (with_request m) (granted j)
-  unfolding with_request
-  same-granted = elim (dec_lt j.request.resource 32) [
-    | yes l ↦ same-given s f l free
-    | no l ↦
-        let e : m.request.resource ≡ 255 = ap (λ (q : Request). q.resource) (s.request ∙ f.none (omega arith)) in
-        rw (eq-eqb m.request.resource 255 e, granted-none j (omega arith)) s
-  ]
-
-  -- A JOB AFTER A PART
-  pub same-worked : (b : Bool) (n : ℕ) → Same (given b n m) (worked b n j)
-  same-worked true n = same-rolled_back s n
-  same-worked false n = same-ran same-granted n

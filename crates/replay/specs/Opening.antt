@@ -8,35 +8,21 @@ use Rattle.job.specs.declared.Job.{Job}
 use Rattle.book.specs.declared.Book.{Book}
 use Rattle.book.specs.Format.{empty_record}
 use Rattle.accepted.specs.Good.{record_of, Good}
-use Rattle.gus.specs.State.{job_at}
-use Rattle.gus.specs.View.{Pay}
-use Rattle.gus.specs.Victims.{sent_back, settled}
-use Rattle.laws.specs.Among.{Among}
+use Rattle.gus.specs.Victims.{sent_back}
 use Rattle.opening.specs.Start.{jobs_from, pay_from}
 use Rattle.opening.specs.Sound.{job_is, apart}
-use Rattle.opening.proofs.Sound.{sound-from}
 use Rattle.replay.specs.Machine.{MachineJob, Machine, from_record, numbered, as_victim, with_victims, machine_from, job_of, finish_worth}
 use Rattle.replay.specs.Same.{Same}
-use Rattle.replay.specs.Agree.{Agrees, agrees-set}
+use Rattle.replay.specs.Agree.{Agrees}
 use Rattle.replay.specs.Records.{Orderly, same-record, no_record}
 
 -- VICTIMS: what agrees still agrees
-same-victim : {m : MachineJob} {j : Job} → Same m j → Same (as_victim m) (sent_back j)
+pub same-victim : {m : MachineJob} {j : Job} → Same m j → Same (as_victim m) (sent_back j)
 same-victim s = record { rolling = refl; run = s.run; rollback = s.rollback; request = refl; hold = s.hold; undo = s.undo; distinct = s.distinct; some = s.some }
 
 -- a machine with these jobs, whose account is empty
-abbrev fresh : ℕ → List MachineJob → Machine
+abbrev pub fresh : ℕ → List MachineJob → Machine
 fresh now ms = record { clock = now; paid = pos 0; unpaid = 0; jobs = ms }
-
-agrees-victims : {pay : Pay} (now : ℕ) (is : List ℕ) (ms : List MachineJob) (js : List Job) → ((i : ℕ) → Among i is → i < length ms) → length ms ≤ length js → Agrees pay (fresh now ms) js → Agrees pay (fresh now (with_victims is ms)) (settled js is)
-unfolding with_victims settled
-agrees-victims now [] ms js below small a = a
-agrees-victims now (i ∷ is) ms js below small a =
-    let l = below i (inl refl) in
-    agrees-victims now is (set ms i (as_victim (numbered ms i))) (set js i (sent_back (job_at js i)))
-    (λ k h. omega (arith, length-set ms i (as_victim (numbered ms i)), below k (inr h)))
-    (omega (arith, length-set ms i (as_victim (numbered ms i)), length-set js i (sent_back (job_at js i))))
-    (agrees-set i (as_victim (numbered ms i)) (sent_back (job_at js i)) now (pos 0) 0 l (omega arith) (same-victim (a.same i)) refl a)
 
 victims-size : (is : List ℕ) (ms : List MachineJob) → length (with_victims is ms) ≡ length ms
 unfolding with_victims
@@ -45,10 +31,10 @@ victims-size (i ∷ is) ms = victims-size is (set ms i (as_victim (numbered ms i
 
 -- THE BOOK'S JOBS
 module _ {b : Book} (g : Good b) where
-  abbrev ms : List MachineJob
+  abbrev pub ms : List MachineJob
   ms = map from_record (take b.jobs b.records)
 
-  ms-size : length ms ≡ b.jobs
+  pub ms-size : length ms ≡ b.jobs
   ms-size = length-map (take b.jobs b.records) from_record ∙ length-take-le b.jobs b.records (omega (arith, g.jobs, g.records_size))
 
   numbered_is : (i : ℕ) → numbered ms i ≡ from_record (record_of b i)
@@ -68,7 +54,7 @@ module _ {b : Book} (g : Good b) where
     | inr l ↦ rw (g.past i l) no_record
   ]
 
-  agrees-book : Agrees (pay_from b) (fresh b.now ms) (jobs_from b)
+  pub agrees-book : Agrees (pay_from b) (fresh b.now ms) (jobs_from b)
   agrees-book = record {
     same = λ i. rw (numbered_is i, job_is b i) (same-record (orderly i));
     worth = worth-book;
@@ -80,6 +66,3 @@ module _ {b : Book} (g : Good b) where
 
   pub machine-size : (is : List ℕ) → length (machine_from b is).jobs ≡ b.jobs
   machine-size is = victims-size is ms ∙ ms-size
-
-  pub agrees_start : (is : List ℕ) → ((i : ℕ) → Among i is → i < b.jobs) → Agrees (pay_from b) (machine_from b is) (settled (jobs_from b) is)
-  agrees_start is below = agrees-victims b.now is ms (jobs_from b) (λ i h. omega (arith, ms-size, below i h)) (omega (arith, ms-size, g.jobs, (sound-from g).size)) agrees-book

@@ -1,13 +1,12 @@
 -- What is read of the fields of an answer: in a list that begins with a field's bytes, whatever comes after them.
 use Rattle.std.specs.Prelude.{◌≡◌, refl, Bool, true, false, cond, List, [], ◌∷◌, ◌++◌, ℕ, zero, suc, ◌+◌, ◌-◌, ◌*◌, ◌/◌, ◌%◌, ◌<◌, ◌≤◌, eqb, ℤ, pos, negsuc, length, get_or}
-use Rattle.std.proofs.Common.{ap, ◌∙◌, append_assoc, add_assoc, div-add-mod', arith, get_or-append-add, lt-ltb, le-ltb}
+use Rattle.std.proofs.Common.{ap, add_assoc, div-add-mod', arith, get_or-append-add, lt-ltb, le-ltb}
 use Rattle.laws.specs.Signed.{up, dn, same, up-sub, dn-sub}
 use Rattle.cursor.specs.Field.{value_at}
 use Rattle.curve.specs.Layout.{signed_of}
 use Rattle.gus.specs.declared.Part.{Part}
 use Rattle.planner.specs.LaidOut.{empty_part}
-use Rattle.ilhuepatl.specs.Answer.{two, four, bits, part_bytes, parts_bytes}
-use Rattle.ilhuepatl.specs.Parts.{part_length}
+use Rattle.ilhuepatl.specs.Answer.{two, four, bits, part_bytes}
 use Rattle.replay.specs.ReadBack.{each, part_in}
 
 -- ---- past a front the places go on from its end
@@ -60,7 +59,7 @@ mode-read : (b : Bool) → eqb (cond b 1 0) 1 ≡ b
 mode-read true = refl
 mode-read false = refl
 
-part-read : (p : Part) (rest : List ℕ) → p.time ≤ 65535 → part_in (part_bytes p ++ rest) 0 ≡ p
+pub part-read : (p : Part) (rest : List ℕ) → p.time ≤ 65535 → part_in (part_bytes p ++ rest) 0 ≡ p
 unfolding part_bytes value_at two
 part-read p rest h =
     let e : (part_in (part_bytes p ++ rest) 0).time ≡ p.time = omega arith in
@@ -72,13 +71,3 @@ JobsFit ps = (k : ℕ) → k < length ps → (get_or ps k empty_part).job ≤ 25
 
 abbrev pub TimesFit : List Part → Type 0
 TimesFit ps = (k : ℕ) → k < length ps → (get_or ps k empty_part).time ≤ 65535
-
-pub parts-read : (ps : List Part) (rest : List ℕ) → TimesFit ps → each (length ps) (λ k. part_in (parts_bytes ps ++ rest) (k * 4)) ≡ ps
-unfolding each parts_bytes
-parts-read [] rest h = refl
-parts-read (p ∷ ps) rest h =
-    let others : List ℕ = parts_bytes ps ++ rest in
-    let later : each (length ps) (λ k. part_in (part_bytes p ++ others) (suc k * 4)) ≡ ps =
-    each_same (length ps) (λ k. part_in (part_bytes p ++ others) (suc k * 4)) (λ k. part_in others (k * 4)) (λ k. part-past (part_bytes p) others (suc k * 4) (k * 4) (omega (arith, part_length p)))
-    ∙ parts-read ps rest (λ k l. h (suc k) (omega arith)) in
-    rw (append_assoc (part_bytes p) (parts_bytes ps) rest) (λ i. part-read p others (h 0 (omega arith)) i ∷ later i)

@@ -18,7 +18,7 @@ use Rattle.ilhuepatl.specs.Answer.{two, four, bits, parts_bytes, answer_bytes}
 use Rattle.ilhuepatl.specs.Parts.{parts-length}
 use Rattle.ilhuepatl.specs.Length.{answer-length}
 use Rattle.replay.specs.ReadBack.{each, length_at, version_at, part_in, read_answer}
-use Rattle.replay.specs.ReadFields.{value-past, part-past, each_same, four-read, bits_small, signed-read, bytes_read, TimesFit, JobsFit, parts-read}
+use Rattle.replay.specs.ReadFields.{value-past, each_same, four-read, bits_small, bytes_read, TimesFit, JobsFit}
 
 -- an answer whose numbers have room in the bytes of their fields
 pub record Fits (a : Answer) : Type 0 where
@@ -33,7 +33,7 @@ pub record Fits (a : Answer) : Type 0 where
   pub end : a.plan.end ≤ 4294967295
 
 -- by its fields, once the counts are known
-read_by : {a : Answer} (s : List ℕ) (victims parts : ℕ)
+pub read_by : {a : Answer} (s : List ℕ) (victims parts : ℕ)
     → value_at s 3 1 ≡ victims
     → value_at s (4 + victims) 1 ≡ parts
     → each victims (λ k. value_at s (4 + k) 1) ≡ a.victims
@@ -47,25 +47,25 @@ read_by s victims parts few many v p r t e = rw (few, many) (λ i. record { vict
 
 -- ---- its bytes, laid out: x and y are those of its length, and rest is what comes after it
 module _ (a : Answer) (x y : ℕ) (rest : List ℕ) where
-  abbrev front : List ℕ
+  abbrev pub front : List ℕ
   front = x ∷ y ∷ 1 ∷ length a.victims ∷ []
 
-  abbrev close : List ℕ
+  abbrev pub close : List ℕ
   close = a.plan.rounds ∷ (four (bits a.plan.total) ++ (four a.plan.end ++ rest))
 
-  abbrev back : List ℕ
+  abbrev pub back : List ℕ
   back = length a.plan.parts ∷ (parts_bytes a.plan.parts ++ close)
 
-  abbrev laid : List ℕ
+  abbrev pub laid : List ℕ
   laid = front ++ (a.victims ++ back)
 
-  abbrev victim_count : ℕ
+  abbrev pub victim_count : ℕ
   victim_count = length a.victims
 
-  abbrev part_count : ℕ
+  abbrev pub part_count : ℕ
   part_count = length a.plan.parts
 
-  few : value_at laid 3 1 ≡ victim_count
+  pub few : value_at laid 3 1 ≡ victim_count
   unfolding value_at
   few = refl
 
@@ -73,49 +73,33 @@ module _ (a : Answer) (x y : ℕ) (rest : List ℕ) where
   unfolding value_at
   first = refl
 
-  many : value_at laid (4 + victim_count) 1 ≡ part_count
+  pub many : value_at laid (4 + victim_count) 1 ≡ part_count
   many = value-past front (a.victims ++ back) (4 + victim_count) victim_count 1 refl ∙ value-past a.victims back victim_count 0 1 (omega arith) ∙ first
 
-  victims-laid : each victim_count (λ k. value_at laid (4 + k) 1) ≡ a.victims
+  pub victims-laid : each victim_count (λ k. value_at laid (4 + k) 1) ≡ a.victims
   victims-laid = each_same victim_count (λ k. value_at laid (4 + k) 1) (λ k. value_at (a.victims ++ back) k 1) (λ k. value-past front (a.victims ++ back) (4 + k) k 1 refl) ∙ bytes_read a.victims back
 
-  parts-laid : TimesFit a.plan.parts → each part_count (λ k. part_in laid (4 + victim_count + 1 + k * 4)) ≡ a.plan.parts
-  parts-laid h =
-      each_same part_count (λ k. part_in laid (4 + victim_count + 1 + k * 4)) (λ k. part_in (parts_bytes a.plan.parts ++ close) (k * 4))
-      (λ k.
-      part-past front (a.victims ++ back) (4 + victim_count + 1 + k * 4) (victim_count + (1 + k * 4)) (omega arith)
-      ∙ part-past a.victims back (victim_count + (1 + k * 4)) (1 + k * 4) refl
-      ∙ part-past (part_count ∷ []) (parts_bytes a.plan.parts ++ close) (1 + k * 4) (k * 4) refl)
-      ∙ parts-read a.plan.parts close h
-
-  close-laid : (p k w : ℕ) → p ≡ 4 + victim_count + 1 + part_count * 4 + k → value_at laid p w ≡ value_at close k w
+  pub close-laid : (p k w : ℕ) → p ≡ 4 + victim_count + 1 + part_count * 4 + k → value_at laid p w ≡ value_at close k w
   close-laid p k w e =
       value-past front (a.victims ++ back) p (victim_count + (1 + (part_count * 4 + k))) w (omega arith)
       ∙ value-past a.victims back (victim_count + (1 + (part_count * 4 + k))) (1 + (part_count * 4 + k)) w refl
       ∙ value-past (part_count ∷ []) (parts_bytes a.plan.parts ++ close) (1 + (part_count * 4 + k)) (part_count * 4 + k) w refl
       ∙ value-past (parts_bytes a.plan.parts) close (part_count * 4 + k) k w (omega (arith, parts-length a.plan.parts))
 
-  rounds-first : value_at close 0 1 ≡ a.plan.rounds
+  pub rounds-first : value_at close 0 1 ≡ a.plan.rounds
   unfolding value_at
   rounds-first = refl
 
-  total-next : value_at close 1 4 ≡ bits a.plan.total
+  pub total-next : value_at close 1 4 ≡ bits a.plan.total
   total-next =
       value-past (a.plan.rounds ∷ []) (four (bits a.plan.total) ++ (four a.plan.end ++ rest)) 1 0 4 refl
       ∙ four-read (bits a.plan.total) (four a.plan.end ++ rest) (bits_small a.plan.total)
 
-  end-last : a.plan.end ≤ 4294967295 → value_at close 5 4 ≡ a.plan.end
+  pub end-last : a.plan.end ≤ 4294967295 → value_at close 5 4 ≡ a.plan.end
   unfolding four
   end-last h =
       value-past (a.plan.rounds ∷ four (bits a.plan.total)) (four a.plan.end ++ rest) 5 0 4 refl
       ∙ four-read a.plan.end rest h
-
-  laid-read : Fits a → read_answer laid ≡ a
-  laid-read f =
-      read_by laid victim_count part_count few many victims-laid (parts-laid f.times)
-      (close-laid (4 + victim_count + 1 + part_count * 4) 0 1 (omega arith) ∙ rounds-first)
-      (ap (signed_of 4294967295) (close-laid (4 + victim_count + 1 + part_count * 4 + 1) 1 4 refl ∙ total-next) ∙ signed-read a.plan.total f.above f.below)
-      (close-laid (4 + victim_count + 1 + part_count * 4 + 5) 5 4 refl ∙ end-last f.end)
 
 regrouped : (a b c d e : List ℕ) → a ++ b ++ (c ++ d) ++ e ≡ a ++ (b ++ (c ++ (d ++ e)))
 regrouped a b c d e = simp append_assoc
@@ -160,18 +144,15 @@ module _ (a : Answer) where
 
   -- THE ANSWER'S BYTES OVER WHAT WAS LENT: what is read there
   module _ (out : List ℕ) where
-    abbrev after : List ℕ
+    abbrev pub after : List ℕ
     after = over (answer_bytes (laid_plan a)) out
 
-    abbrev later : List ℕ
+    abbrev pub later : List ℕ
     later = drop (length (answer_bytes (laid_plan a))) out
 
-    over-laid : after ≡ laid a (size / 256 % 256) (size % 256) later
+    pub over-laid : after ≡ laid a (size / 256 % 256) (size % 256) later
     unfolding over
     over-laid = answer-laid later
-
-    pub answer-read : Fits a → read_answer after ≡ a
-    answer-read f = ap read_answer over-laid ∙ laid-read a _ _ later f
 
     pub length-read : Fits a → length_at after ≡ size
     length-read f = ap length_at over-laid ∙ size-read later (omega (arith, f.few_victims, f.few_parts))

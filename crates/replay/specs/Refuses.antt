@@ -69,7 +69,7 @@ module _ (s : List ℕ) (b : Bytes s) where
     clear h e l (inr (inl w)) = w (kept e)
     clear h e l (inr (inr w)) = omega (arith, knotting.1 w.1)
 
-    given-refuses : {v : Verdict} → Given s room least v → Refuses s room least v
+    pub given-refuses : {v : Verdict} → Given s room least v → Refuses s room least v
     given-refuses (small h) = record {
       exactly = (λ l. inl h, λ w. omega arith);
       no_room = λ l. refl;
@@ -113,15 +113,12 @@ module _ (s out : List ℕ) where
       by h p (knots e l) q = rw (q ∙ refused-out KNOT (knot_in s) (omega arith) out) (knot h e l)
       by h p (answers e l) q = rw q (none h e l)
 
-  pub plan-refuses : Bytes s → Refuses s (length out) 430 (outcome_of s out).verdict
-  plan-refuses b = given-refuses s b given_out
-
 -- A LENT ROW of 96 records
 module _ (s : List ℕ) (row : List Part) where
   abbrev row_verdict : Verdict
   row_verdict = verdict_of (row_outcome_of s row).answer.number (row_outcome_of s row).answer.place
 
-  given-row : Given s (length row) 96 row_verdict
+  pub given-row : Given s (length row) 96 row_verdict
   unfolding laid_plan
   given-row = elim (lt-or-le (length row) 96) [
     | inl h ↦ rw (without-row s row h) (small h)
@@ -132,9 +129,6 @@ module _ (s : List ℕ) (row : List Part) where
       by h p (refuses l) q = rw (q ∙ refused-row (book_of s).number (book_of s).place l row) (reader h l)
       by h p (knots e l) q = rw (q ∙ refused-row KNOT (knot_in s) (omega arith) row) (knot h e l)
       by h p (answers e l) q = rw q (none h e l)
-
-  pub row-refuses : Bytes s → Refuses s (length row) 96 (verdict_of (row_outcome_of s row).answer.number (row_outcome_of s row).answer.place)
-  row-refuses b = given-refuses s b given-row
 
 -- NOTHING LENT: "Calls that lend no output never give ROOM"
 given-plan : (s : List ℕ) → Given s 0 0 (verdict_of (planned_of s).number (planned_of s).place)

@@ -3,13 +3,11 @@ use Rattle.std.specs.Prelude.{◌≡◌, refl, true, false, List, map, ℕ, ◌-
 use Rattle.std.proofs.Common.{sym, ap, ◌∙◌, arith, lt-ltb, le-ltb}
 use Rattle.std.proofs.Math.Decide.{dec_lt}
 use Rattle.job.specs.declared.Job.{Job}
-use Rattle.job.specs.Job.{hold_of, rollback_of, ran, rolled_back}
+use Rattle.job.specs.Job.{hold_of, rollback_of, ran}
 use Rattle.job.specs.Run.{ran-run, ran-rollback, ran-rolling, ran-request, hold-ran}
 use Rattle.job.proofs.Run.{rollback-ran}
-use Rattle.job.specs.Rollback.{rolled_back-run, rolled_back-rollback, rolled_back-rolling, rolled_back-request}
-use Rattle.job.proofs.Rollback.{rollback-rolled_back, hold-rolled_back, hold-rolled_back-freed, hold-rolled_back-le}
 use Rattle.book.specs.declared.Entry.{Entry}
-use Rattle.replay.specs.Machine.{MachineJob, still_held, less_hold, has_run, less_rollback, has_rolled_back}
+use Rattle.replay.specs.Machine.{MachineJob, still_held, less_hold, has_run, less_rollback}
 use Rattle.replay.specs.View.{lists, hold_on}
 use Rattle.replay.specs.Lists.{Distinct, Some, listed, distinct-map, some-kept, distinct-kept, lists-is, after-listed, after-unlisted}
 
@@ -28,14 +26,14 @@ pub same_lists : {m : MachineJob} {j : Job} → Same m j → (r : ℕ) → lists
 same_lists {m} s r = lists-is m.holds r s.some ∙ ap (ltb 0) (s.hold r)
 
 module _ {m : MachineJob} {j : Job} (s : Same m j) (n : ℕ) where
-  abbrev es : List Entry
+  abbrev pub es : List Entry
   es = m.holds
 
   -- what the job holds, with both its times
-  has : (r : ℕ) → 0 < hold_of j r → (lists es r ≡ true) × (0 < (hold_on es r).rollback)
+  pub has : (r : ℕ) → 0 < hold_of j r → (lists es r ≡ true) × (0 < (hold_on es r).rollback)
   has r h = let y = same_lists s r ∙ lt-ltb 0 (hold_of j r) h in (y, (listed es r s.some y).1)
 
-  has-not : (r : ℕ) → hold_of j r ≤ 0 → lists es r ≡ false
+  pub has-not : (r : ℕ) → hold_of j r ≤ 0 → lists es r ≡ false
   has-not r h = same_lists s r ∙ le-ltb 0 (hold_of j r) h
 
   -- it ran for n
@@ -66,34 +64,5 @@ module _ {m : MachineJob} {j : Job} (s : Same m j) (n : ℕ) where
   }
 
   -- it rolled back for n
-  undone : (r : ℕ) → 0 < hold_of j r → n < rollback_of j r → hold_on (still_held (map (less_rollback n) es)) r ≡ less_rollback n (hold_on es r)
+  pub undone : (r : ℕ) → 0 < hold_of j r → n < rollback_of j r → hold_on (still_held (map (less_rollback n) es)) r ≡ less_rollback n (hold_on es r)
   undone r h l = rw (after-listed (less_rollback n) (λ e. refl) es s.distinct r (has r h).0, lt-ltb 0 (hold_on es r).hold (omega (arith, s.hold r)), lt-ltb 0 ((hold_on es r).rollback - n) (omega (arith, s.undo r h)))
-
-  back-hold : (r : ℕ) → (hold_on (still_held (map (less_rollback n) es)) r).hold ≡ hold_of (rolled_back n j) r
-  back-hold r = elim (dec_lt 0 (hold_of j r)) [
-    | yes h ↦ elim (dec_lt n (rollback_of j r)) [
-      | yes l ↦ ap (λ (e : Entry). e.hold) (undone r h l) ∙ s.hold r ∙ sym (hold-rolled_back n j r l)
-      | no l ↦ rw (after-listed (less_rollback n) (λ e. refl) es s.distinct r (has r h).0, lt-ltb 0 (hold_on es r).hold (omega (arith, s.hold r)), le-ltb 0 ((hold_on es r).rollback - n) (omega (arith, s.undo r h))) (sym (hold-rolled_back-freed n j r (omega arith)))
-    ]
-    | no h ↦ rw (after-unlisted (less_rollback n) (λ e. refl) es s.distinct r (has-not r (omega arith))) (omega (arith, hold-rolled_back-le n j r))
-  ]
-
-  back-undo : (r : ℕ) → 0 < hold_of (rolled_back n j) r → (hold_on (still_held (map (less_rollback n) es)) r).rollback ≡ rollback_of (rolled_back n j) r
-  back-undo r k = elim (dec_lt n (rollback_of j r)) [
-    | yes l ↦
-        let h : 0 < hold_of j r = omega (arith, hold-rolled_back-le n j r) in
-        omega (arith, ap (λ (e : Entry). e.rollback) (undone r h l), s.undo r h, rollback-rolled_back n j r)
-    | no l ↦ absurd (omega (arith, hold-rolled_back-freed n j r (omega arith)))
-  ]
-
-  pub same-rolled_back : Same (has_rolled_back n m) (rolled_back n j)
-  same-rolled_back = record {
-    rolling = sym (rolled_back-rolling n j);
-    run = s.run ∙ sym (rolled_back-run n j);
-    rollback = omega (arith, s.rollback, rolled_back-rollback n j);
-    request = sym (rolled_back-request n j);
-    hold = back-hold;
-    undo = back-undo;
-    distinct = distinct-kept (map (less_rollback n) es) (distinct-map (less_rollback n) (λ e. refl) es s.distinct);
-    some = some-kept (map (less_rollback n) es);
-  }

@@ -1,7 +1,6 @@
 -- THE NUMBER THAT C GETS FOR A CURVE: what it says, and that nothing of it is lost.
 use Rattle.std.specs.Prelude.{◌≡◌, refl, ◌↔◌, cond, List, ℕ, ◌/◌, ◌%◌, ◌<◌, ◌≤◌, eqb, ℤ, nat_abs}
-use Rattle.std.proofs.Common.{sym, ◌∙◌, inl, inr, arith, ne_eqb}
-use Rattle.laws.specs.Search.{lt-or-le}
+use Rattle.std.proofs.Common.{arith, ne_eqb}
 use Rattle.laws.specs.Signed.{up, dn, abs_is}
 use Rattle.curve.specs.declared.Worth.{Worth}
 use Rattle.curve.specs.declared.Worth.TheVariants.{None, Of}
@@ -10,15 +9,10 @@ use Rattle.curve.specs.Layout.{signed_of, curve_at}
 use Rattle.book.specs.declared.worth.CurveWorth.{CurveWorth}
 use Rattle.book.specs.CurveWorth.{curve_worth}
 use Rattle.accepted.specs.Layout.{Bytes}
-use Rattle.accepted.specs.Reach.{worth-near}
 use Rattle.accepted.specs.CurveBytes.{AloneKept}
-use Rattle.accepted.proofs.CurveBytes.{curve-exactly, worth-alone, worth-alone-small}
-use Rattle.ilhuepatl.specs.declared.Verdict.{Verdict}
 use Rattle.ilhuepatl.specs.Answer.{bits}
-use Rattle.ilhuepatl.specs.Calls.{verdict_of, word, worth_bits, word_of_worth}
-use Rattle.ilhuepatl.specs.Outcomes.{worth-refused, worth-told}
+use Rattle.ilhuepatl.specs.Calls.{worth_bits, word_of_worth}
 use Rattle.replay.specs.ReadFields.{bits_small, signed-read}
-use Rattle.replay.specs.Words.{word_number, word-place}
 
 -- what C reads in it: none at 2 ^ 31, the number farthest from all worths, and else a worth in two's complement
 abbrev pub read_worth : ℕ → Worth
@@ -37,7 +31,7 @@ unfolding bits
 bits-free z h l e = omega arith
 
 -- so a worth is read back as it was
-worth-read : (w : Worth) → nat_abs (amount w) ≤ 1000000 → read_worth (worth_bits w) ≡ w
+pub worth-read : (w : Worth) → nat_abs (amount w) ≤ 1000000 → read_worth (worth_bits w) ≡ w
 worth-read None h = refl
 worth-read (Of z) h =
     let size = abs_is z in
@@ -46,37 +40,10 @@ worth-read (Of z) h =
     λ d. cond (other d) None (Of (same d))
 
 -- and has no upper half
-worth-below : (w : Worth) → worth_bits w < 4294967296
+pub worth-below : (w : Worth) → worth_bits w < 4294967296
 worth-below None = omega arith
 worth-below (Of z) = omega (arith, bits_small z)
 
 module _ (s : List ℕ) (t : ℕ) (b : Bytes s) where
-  abbrev w : CurveWorth
+  abbrev pub w : CurveWorth
   w = curve_worth s t
-
-  refused : 0 < w.number → WorthWord s t
-  refused l =
-      let v : Verdict = verdict_of w.number w.place in
-      let e : word_of_worth w ≡ word v = sym (worth-refused refl l refl) in
-      let none : AloneKept s → ⊥ = λ a. omega (arith, (curve-exactly s t b).1 a) in
-      record {
-        exactly = (λ x. none, λ x. rw e (omega (arith, word_number v)));
-        refusal = λ x. (rw e (word_number v), rw e (word-place v (omega (arith, worth-near s t))));
-        worth = λ a. absurd (none a);
-      }
-
-  told : w.number ≡ 0 → WorthWord s t
-  told n =
-      let e : word_of_worth w ≡ worth_bits w.worth = sym (worth-told refl (omega arith) refl) in
-      let kept = (curve-exactly s t b).0 n in
-      record {
-        exactly = (λ x. absurd (omega (arith, x, e, worth-below w.worth)), λ no. absurd (no kept));
-        refusal = λ no. absurd (no kept);
-        worth = λ a. rw e (worth-read w.worth (worth-alone-small s t n) ∙ worth-alone s t n);
-      }
-
-  pub worth_word : WorthWord s t
-  worth_word = elim (lt-or-le 0 w.number) [
-    | inl l ↦ refused l
-    | inr l ↦ told (omega arith)
-  ]

@@ -1,0 +1,14 @@
+pub mod Agree
+pub mod Bridge
+pub mod Demand
+pub mod Example
+pub mod First
+pub mod Granted
+pub mod Opening
+pub mod ReadFields
+pub mod ReadsTheorems
+pub mod Refuses
+pub mod Same
+pub mod Whole
+pub mod Words
+pub mod WorthWord
