@@ -11,7 +11,8 @@ use Rattle.cursor.specs.Refusal.{RANGE}
 use Rattle.cursor.specs.Field.{value_at, got_at}
 use Rattle.book.specs.Format.{start_read, signed_read, piece_read, piece_next, pieces_read, curve_read}
 use Rattle.accepted.specs.Fields.{Onward, Passes, onward, field_back}
-use Rattle.accepted.specs.Sticks.{unrefused-before, signed-sticks, end-sticks, loop-sticks, loop-sticks-all}
+use Rattle.accepted.specs.Sticks.{unrefused-before, loop-sticks, loop-sticks-all}
+use Rattle.accepted.proofs.Sticks.{signed-sticks, end-sticks}
 use Rattle.accepted.proofs.Sticks.{piece-next-sticks}
 use Rattle.accepted.specs.SignedFields.{signed-got, signed_back}
 use Rattle.accepted.specs.Curves.{CurvePasses, PiecePasses, Pieced, end_back, last_of, list_start, low_of, pieced, pieces-got, read, start-got, start_back}

@@ -12,7 +12,8 @@ use Rattle.accepted.specs.Sticks.{unrefused-before, tail-sticks, loop-sticks}
 use Rattle.accepted.proofs.Sticks.{record-next-sticks, records-sticks}
 use Rattle.accepted.specs.Layout.{Bytes, jobs_at, resources_at, now_at, job_place}
 use Rattle.accepted.specs.Kept.{RecordKept, BookKept}
-use Rattle.accepted.specs.Headers.{header-got, header-back}
+use Rattle.accepted.specs.Headers.{header-got}
+use Rattle.accepted.proofs.Headers.{header-back}
 use Rattle.accepted.specs.JobRecords.{RecordGot}
 use Rattle.accepted.proofs.JobRecords.{record-got, record-back}
 use Rattle.accepted.specs.Exactly.{BookGot, Recorded, book-read, last-passed, read, recorded, tail-back, whole}

@@ -10,3 +10,4 @@ pub mod Places
 pub mod Requests
 pub mod Spans
 pub mod Sticks
+pub mod Headers

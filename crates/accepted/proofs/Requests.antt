@@ -8,7 +8,8 @@ use Rattle.cursor.specs.Field.{value_at, got_at, field_of}
 use Rattle.book.specs.Rules.{if_requested}
 use Rattle.book.specs.Format.{requested_resource, request_read}
 use Rattle.accepted.specs.Fields.{Onward, onward, field-got, field_back}
-use Rattle.accepted.specs.Sticks.{unrefused-before, field-sticks, requested-rollback-sticks}
+use Rattle.accepted.specs.Sticks.{unrefused-before, field-sticks}
+use Rattle.accepted.proofs.Sticks.{requested-rollback-sticks}
 use Rattle.accepted.specs.Layout.{request_at}
 use Rattle.accepted.specs.Rules.{GoodRequest}
 use Rattle.accepted.specs.Requests.{RequestPasses, back-back, request-good, resource-back, resource-got}

@@ -3,12 +3,24 @@ use Prim.Native.Nat.{ℕ}
 use Rattle.std.specs.Prelude.{List}
 use Rattle.curve.specs.declared.Piece.{Piece}
 use Rattle.cursor.specs.declared.Reading.{Reading}
+use Rattle.cursor.specs.Refusal.{RANGE}
+use Rattle.book.specs.Format.{requested_rollback, signed_read, end_read, rollback_read, requested_resource, request_read, unheld_read, held_resource, entry_read, entry_next, held_read, start_read, piece_read, piece_next, pieces_read, curve_read, record_read, record_next, records_read, no_records}
+use Rattle.accepted.specs.Sticks.{Sticks, field-sticks, rule-sticks, sticks-then, loop-sticks-all}
 use Rattle.book.specs.declared.held.HeldList.{HeldList}
 use Rattle.book.specs.declared.pieces.PieceList.{PieceList}
 use Rattle.book.specs.declared.reader.Records.{Records}
-use Rattle.cursor.specs.Refusal.{RANGE}
-use Rattle.book.specs.Format.{rollback_read, requested_resource, request_read, unheld_read, held_resource, entry_read, entry_next, held_read, start_read, piece_read, piece_next, pieces_read, curve_read, record_read, record_next, records_read, no_records}
-use Rattle.accepted.specs.Sticks.{Sticks, end-sticks, field-sticks, loop-sticks-all, requested-rollback-sticks, rule-sticks, signed-sticks, sticks-then}
+
+pub requested-rollback-sticks : (s : List ℕ) (resource : ℕ) (r : Reading) → Sticks r (requested_rollback s resource r)
+unfolding requested_rollback
+requested-rollback-sticks s resource r = sticks-then (field-sticks s 2 _ _ RANGE r) (rule-sticks _ _ _ _)
+
+pub signed-sticks : (s : List ℕ) (n most high : ℕ) (r : Reading) → Sticks r (signed_read s n most high r)
+unfolding signed_read
+signed-sticks s n most high r = sticks-then (field-sticks s n 0 high RANGE r) (rule-sticks _ _ _ _)
+
+pub end-sticks : (s : List ℕ) (last : Piece) (r : Reading) → Sticks r (end_read s last r)
+unfolding end_read
+end-sticks s last r = sticks-then (field-sticks s 4 _ 2147483647 RANGE r) (rule-sticks _ _ _ _)
 
 -- ---- the stages of the format, in book order
 pub rollback-sticks : (s : List ℕ) (r : Reading) → Sticks r (rollback_read s r)

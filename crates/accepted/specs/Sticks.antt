@@ -6,11 +6,9 @@ use Rattle.std.proofs.Common.{ap, ◌∙◌}
 use Rattle.std.proofs.Math.Logic.{inl, inr}
 use Rattle.laws.specs.Count.{upto}
 use Rattle.laws.specs.Search.{lt-or-le}
-use Rattle.curve.specs.declared.Piece.{Piece}
 use Rattle.cursor.specs.declared.Reading.{Reading}
-use Rattle.cursor.specs.Refusal.{RANGE}
 use Rattle.cursor.specs.Field.{field_of, rule_of}
-use Rattle.book.specs.Format.{requested_rollback, signed_read, end_read, tail_read}
+use Rattle.book.specs.Format.{tail_read}
 use Rattle.accepted.specs.Fields.{field-stays, rule-stays}
 
 -- what r refuses, o refuses
@@ -60,18 +58,6 @@ rule-sticks ok number place r = record {
   number = λ h. ap (λ (x : Reading). x.number) (rule-stays ok number place r h);
   place = λ h. ap (λ (x : Reading). x.place) (rule-stays ok number place r h);
 }
-
-pub requested-rollback-sticks : (s : List ℕ) (resource : ℕ) (r : Reading) → Sticks r (requested_rollback s resource r)
-unfolding requested_rollback
-requested-rollback-sticks s resource r = sticks-then (field-sticks s 2 _ _ RANGE r) (rule-sticks _ _ _ _)
-
-pub signed-sticks : (s : List ℕ) (n most high : ℕ) (r : Reading) → Sticks r (signed_read s n most high r)
-unfolding signed_read
-signed-sticks s n most high r = sticks-then (field-sticks s n 0 high RANGE r) (rule-sticks _ _ _ _)
-
-pub end-sticks : (s : List ℕ) (last : Piece) (r : Reading) → Sticks r (end_read s last r)
-unfolding end_read
-end-sticks s last r = sticks-then (field-sticks s 4 _ 2147483647 RANGE r) (rule-sticks _ _ _ _)
 
 pub tail-sticks : (s : List ℕ) (r : Reading) → Sticks r (tail_read s r)
 unfolding tail_read

@@ -4,7 +4,8 @@ use Rattle.std.proofs.Common.{arith, ltb-true, ltb-false}
 use Rattle.cursor.specs.declared.Reading.{Reading}
 use Rattle.cursor.specs.Refusal.{SIZE, VERSION, COUNT, RANGE}
 use Rattle.cursor.specs.Field.{value_at, refused_at, got_at, judged, read_at, field_of, rule_of}
-use Rattle.cursor.specs.Outcome.{by-test, field-small}
+use Rattle.cursor.specs.Outcome.{by-test}
+use Rattle.cursor.proofs.Outcome.{field-small}
 use Rattle.cursor.specs.Header.{header_of}
 
 -- from r to o by n bytes, unless o is refused

@@ -1,3 +1,4 @@
 pub mod Both
 pub mod Only
 pub mod Stepwise
+pub mod Outcome

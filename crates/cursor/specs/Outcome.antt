@@ -1,10 +1,10 @@
 -- A field that is read at a place has two outcomes: a refusal at that place, or a value that is at most its high bound.
-use Prim.Native.Nat.{ℕ, ◌-◌, ◌<◌, ◌≤◌, zero-le}
+use Prim.Native.Nat.{ℕ, ◌-◌, ◌<◌, ◌≤◌}
 use Rattle.std.proofs.Common.{arith, ltb-false}
 use Rattle.std.specs.Prelude.{◌≡◌, refl, Bool, true, false, cond, List, ltb, length}
 use Rattle.cursor.specs.declared.Reading.{Reading}
 use Rattle.cursor.specs.Refusal.{CUT}
-use Rattle.cursor.specs.Field.{value_at, refused_at, got_at, judged, read_at, field_of}
+use Rattle.cursor.specs.Field.{value_at, refused_at, got_at, judged, read_at}
 
 -- one of two, by a test
 pub by-test : {A : Type 0} (b : Bool) (x y : A) (P : A → Type 0) → (b ≡ true → P x) → (b ≡ false → P y) → P (cond b x y)
@@ -25,12 +25,3 @@ module _ (s : List ℕ) (n low high number : ℕ) (known : 0 < number) where
       by-test (ltb (length s - n) place) _ _ P (λ e. refused CUT (omega arith) refl) (λ fits.
       by-test (ltb v low) _ _ P (λ e. refused number known refl) (λ enough.
       by-test (ltb high v) _ _ P (λ e. refused number known refl) (λ few. got v (ltb-false high v few) refl))))
-
-  -- a field's value is at most its high bound, and 0 where it is refused
-  pub field-small : (r : Reading) → (field_of s n low high number r).value ≤ high
-  unfolding field_of
-  field-small r = by-test (ltb 0 r.number) _ _ (λ (o : Reading). o.value ≤ high) (λ e. zero-le) (λ fresh. small (read-outcome r.next))
-    where
-      small : {place : ℕ} {o : Reading} → Outcome place n high o → o.value ≤ high
-      small (refused k h e) = rw e zero-le
-      small (got v h e) = rw e h

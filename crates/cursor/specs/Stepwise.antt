@@ -5,13 +5,11 @@ use Rattle.std.specs.Prelude.{◌≡◌, List, ltb}
 use Rattle.std.proofs.Math.Path.{refl}
 use borrow.Author.Tests.{ltb-true, lt-ltb, le-ltb}
 use Rattle.cursor.specs.declared.Reading.{Reading}
-use Rattle.cursor.specs.declared.Header.{Header}
 use Rattle.cursor.specs.declared.reader.Step.{Step}
-use Rattle.cursor.specs.Refusal.{COUNT, RANGE}
 use Rattle.cursor.specs.Field.{read_at, field_of}
-use Rattle.cursor.specs.Outcome.{by-test, Outcome, refused, got, field-small}
+use Rattle.cursor.specs.Outcome.{by-test, Outcome, refused, got}
 use Rattle.cursor.specs.Step.{step_of, step-refused, step-got}
-use Rattle.cursor.specs.Header.{header_of, Headed, after_step}
+use Rattle.cursor.specs.Header.{after_step}
 
 -- a reading at a place, unless it is refused
 pub record Stands (r : Reading) (place : ℕ) : Type 0 where
@@ -31,7 +29,3 @@ module _ (s : List ℕ) where
     unfolding after_step field_of
     from-there r z (refused k h e) = rw (le-ltb 0 r.number (omega arith), step-refused s r.next n low high number k e, lt-ltb 0 k h, e)
     from-there r z (got v h e) = rw (le-ltb 0 r.number (omega arith), step-got s r.next n low high number v e, e)
-
-  pub stepwise-headed : (o : Header) → o ≡ header_of s → Headed s o
-  unfolding header_of
-  stepwise-headed o e = record { is = e; few = rw e (field-small s 1 0 32 COUNT (omega arith) _); soon = rw e (field-small s 4 0 2147483647 RANGE (omega arith) _) }

@@ -7,7 +7,8 @@ use Rattle.laws.specs.Search.{lt-or-le}
 use Rattle.cursor.specs.Field.{value_at}
 use Rattle.curve.specs.declared.Worth.TheVariants.{None}
 use Rattle.curve.specs.Layout.{piece_place, curve_end}
-use Rattle.curve.specs.Question.{worth_from, stands_after, stands-until}
+use Rattle.curve.specs.Question.{worth_from, stands-until}
+use Rattle.curve.proofs.QuestionTheorems.{stands_after}
 use Rattle.curve.specs.Before.{Backing, back_is, before-after, before-until, none, worth_back, worth_before}
 
 module _ {s : List ℕ} {t end n : ℕ} where

@@ -11,7 +11,7 @@ use Rattle.curve.specs.declared.Piece.{Piece}
 use Rattle.curve.specs.declared.Worth.{Worth}
 use Rattle.curve.specs.declared.Worth.TheVariants.{None}
 use Rattle.curve.specs.Worth.{no_piece, worth_in, worth_at}
-use Rattle.curve.specs.Walk.{worth-after, worth-until, Walking, walk-begin, walk-back, walk_none}
+use Rattle.curve.specs.Walk.{worth-until, Walking, walk-begin, walk-back}
 use Rattle.curve.specs.Layout.{piece_at, piece_place, curve_at, curve_end}
 
 -- a curve stands at a place: it has at most 8 pieces, and the bytes reach to its end
@@ -42,9 +42,6 @@ module _ (s : List ℕ) (p : ℕ) where
     unfolding worth_from stands_at
     stands = rw (le-leb (value_at s p 1) 8 few, le-leb (curve_end s p) (length s) h)
 
-    pub stands_after : (curve_at s p).end < t → worth_from s p t ≡ None
-    stands_after l = stands ∙ worth-after (curve_at s p) t l
-
     pub stands-until : t ≤ (curve_at s p).end → worth_from s p t ≡ worth_in (curve_at s p).pieces t (value_at s p 1)
     stands-until l = let e : min (value_at s p 1) 8 ≡ value_at s p 1 = omega arith in stands ∙ (rw e at (worth-until (curve_at s p) t l))
 
@@ -68,6 +65,3 @@ module _ {pieces : List Piece} {t n first : ℕ} where
 
     pub back-next : first < at → t < (get_or pieces (b.left - 1) no_piece).start → Back pieces t n first (at - 10)
     back-next h q = record { left = b.left - 1; here = omega (arith, b.here); walking = walk-back b.walking (back_some h) q }
-
-    pub back_none : at ≤ first → None ≡ worth_in pieces t n
-    back_none h = walk_none b.walking (omega (arith, b.here))

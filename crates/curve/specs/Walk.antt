@@ -30,7 +30,7 @@ module _ (pieces : List Piece) (t : ℕ) where
   passed zero h q = absurd (not-suc-le-zero h)
   passed (suc k) h q = let e : suc k - 1 ≡ k = omega arith in rw (e, lt-leb (get_or pieces k no_piece).start t (rw e at q))
 
-  none : (k : ℕ) → k ≤ 0 → worth_in pieces t k ≡ None
+  pub none : (k : ℕ) → k ≤ 0 → worth_in pieces t k ≡ None
   unfolding worth_in
   none zero h = refl
   none (suc k) h = absurd (not-suc-le-zero h)
@@ -50,6 +50,3 @@ module _ {pieces : List Piece} {t n : ℕ} where
 
     pub walk-served : 0 < k → (get_or pieces (k - 1) no_piece).start ≤ t → Of (line_at (get_or pieces (k - 1) no_piece) t) ≡ worth_in pieces t n
     walk-served h q = sym (served pieces t k h q) ∙ w.same
-
-    pub walk_none : k ≤ 0 → None ≡ worth_in pieces t n
-    walk_none h = sym (none pieces t k h) ∙ w.same

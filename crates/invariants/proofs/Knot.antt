@@ -1,17 +1,24 @@
 -- What rests on specs/Knot.antt.
-use Prim.Native.Nat.{ℕ, ◌<◌, ◌≤◌}
+use Prim.Native.Nat.{ℕ, ◌≤◌, ◌<◌}
 use Rattle.std.proofs.Common.{arith, sym, ◌∙◌, true≢false}
-use Rattle.std.proofs.Math.Decide.{ℕ_discrete}
-use Rattle.std.specs.Prelude.{◌≡◌, ◌↔◌}
+use Rattle.std.specs.Prelude.{◌≡◌}
 use Rattle.std.proofs.Math.Logic.{inl, inr}
-use Rattle.laws.specs.Search.{lt-or-le}
-use Rattle.laws.specs.Circle.{Reaches, reaches-self, circle-of-reached}
-use Rattle.job.specs.Times.{never}
+use Rattle.std.proofs.Math.Bool.{true}
+use Rattle.laws.specs.Circle.{OnCircle, Reaches, reaches-self, circle-of-reached}
 use Rattle.gus.specs.View.{View}
-use Rattle.gus.specs.Victims.{circle_of, knot_of}
-use Rattle.invariants.specs.Circles.{lowest-le, lowest-same, lowest-lowest}
+use Rattle.gus.specs.Victims.{circle_of, victim_of, knot_of}
+use Rattle.invariants.specs.Circles.{circle-below, lowest-le}
+use Rattle.invariants.proofs.Circles.{lowest-same, lowest-lowest}
+use Rattle.invariants.specs.Knot.{knot, Knotted, Stuck, knotted-none, stuck-on}
+use Rattle.std.proofs.Math.Decide.{ℕ_discrete}
+use Rattle.laws.specs.Search.{lt-or-le}
+use Rattle.job.specs.Times.{never}
 use Rattle.invariants.specs.Victim.{Candidate, victim-some}
-use Rattle.invariants.specs.Knot.{Knotted, Stuck, knot, knot-none, knotted-none, stuck-on}
+
+module _ (v : View) (t : ℕ) where
+  -- where there is no knot every circle has a victim
+  pub knot-none : 32 ≤ knot_of v t → (i : ℕ) → OnCircle v.waits 32 i → (victim_of v t (circle_of v.waits i)).some ≡ true
+  knot-none l i c = elim (knot v t) [ inl x ↦ x.1.has (circle_of v.waits i) (circle-below c) (lowest-lowest c) | inr x ↦ absurd (omega (arith, x.below)) ]
 
 module _ (v : View) (t : ℕ) where
   stuck-knotted : {w : ℕ} → Stuck v t 32 w → Knotted v w
@@ -37,10 +44,3 @@ module _ (v : View) (t : ℕ) where
       ],
     )
   ]
-
-  -- there is one exactly if some job is on such a circle
-  pub knot-exactly : (knot_of v t < 32) ↔ ((i : ℕ) × Knotted v i)
-  knot-exactly = (
-    λ l. (knot_of v t, (knot-is l).0),
-    λ x. elim (lt-or-le (knot_of v t) 32) [ inl l ↦ l | inr l ↦ absurd ((knotted-none v t) x.1 ((knot-none v t) l x.0 x.1.on)) ],
-  )

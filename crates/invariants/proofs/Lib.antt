@@ -14,3 +14,8 @@ pub mod Rounds
 pub mod Start
 pub mod Victims
 pub mod Waiting
+pub mod CircleModes
+pub mod Circles
+pub mod Runs
+pub mod Total
+pub mod KnotExactly

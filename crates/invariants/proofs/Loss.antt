@@ -4,7 +4,7 @@ use Rattle.job.specs.declared.Job.{Job}
 use Rattle.gus.specs.View.{Pay}
 use Rattle.gus.specs.Victims.{settled}
 use Rattle.invariants.specs.Sound.{Sound}
-use Rattle.invariants.specs.CircleModes.{circle-normal}
+use Rattle.invariants.proofs.CircleModes.{circle-normal}
 use Rattle.invariants.specs.Loss.{LossesAgree, loss_by_mode}
 
 pub losses-agree : {js : List Job} → Sound js → (is : List ℕ) (pay : Pay) → LossesAgree pay (settled js is)

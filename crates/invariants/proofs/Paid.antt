@@ -14,7 +14,8 @@ use Rattle.gus.specs.Group.{group_of}
 use Rattle.invariants.specs.Sound.{Member}
 use Rattle.invariants.specs.Waiting.{Ready}
 use Rattle.invariants.specs.Fair.{Fair}
-use Rattle.invariants.specs.Runs.{Runs, last, next, group-runs}
+use Rattle.invariants.specs.Runs.{Runs, last, next}
+use Rattle.invariants.proofs.Runs.{group-runs}
 use Rattle.invariants.specs.Replay.{paid, all_inside}
 use Rattle.invariants.specs.Paid.{and-true, between, course-is, course_of, earns-earned}
 

@@ -13,7 +13,7 @@ use Rattle.gus.specs.Round.{worthwhile}
 use Rattle.invariants.specs.Sound.{Member}
 use Rattle.invariants.specs.Waiting.{Ready}
 use Rattle.invariants.specs.Fair.{Fair}
-use Rattle.invariants.specs.Runs.{group-runs}
+use Rattle.invariants.proofs.Runs.{group-runs}
 use Rattle.invariants.specs.Paid.{group-lasts}
 use Rattle.invariants.specs.Winner.{Timed, Wins}
 use Rattle.invariants.specs.Picked.{Candidate, course_at, runs-some}

@@ -1,23 +1,26 @@
 -- What rests on specs/Rounds.antt.
-use Prim.Native.Nat.{ℕ, zero, suc, ◌+◌, ◌≤◌}
-use Rattle.std.proofs.Common.{arith, length-append}
-use Rattle.std.specs.Prelude.{◌≡◌, refl, List, pos}
-use Rattle.std.proofs.Math.Bool.{Bool, true, false}
-use Rattle.laws.specs.Signed.{tight, lt_z-true}
-use Rattle.laws.proofs.Signed.{dn-add}
+use Prim.Native.Nat.{ℕ, ◌+◌, zero, suc, ◌≤◌}
+use Rattle.std.specs.Prelude.{List, ◌≡◌, refl, pos}
 use Rattle.job.specs.declared.Job.{Job}
-use Rattle.gus.specs.declared.Best.{Best}
 use Rattle.gus.specs.State.{after_all}
 use Rattle.gus.specs.View.{Pay, view_of}
-use Rattle.gus.specs.Course.{denser}
 use Rattle.gus.specs.Choice.{Way}
+use Rattle.gus.specs.Round.{Plan, stop, worthwhile, best_of, joined, rounds}
+use Rattle.invariants.specs.Fair.{Fair}
+use Rattle.invariants.specs.Rounds.{Replayed, group_at, rest_at}
+use Rattle.std.proofs.Common.{arith, length-append}
+use Rattle.std.proofs.Math.Bool.{false, Bool, true}
+use Rattle.invariants.specs.Replay.{over, lasts, paid, all_inside, runs-replay, replay-append, after-append, lasts-append, paid-append, inside-append}
+use Rattle.invariants.specs.Picked.{course_at, Candidate, picked}
+use Rattle.laws.specs.Signed.{tight, lt_z-true}
+use Rattle.laws.proofs.Signed.{dn-add}
+use Rattle.gus.specs.declared.Best.{Best}
+use Rattle.gus.specs.Course.{denser}
 use Rattle.gus.specs.Group.{Group}
-use Rattle.gus.specs.Round.{best_of, Plan, stop, joined, worthwhile, rounds}
 use Rattle.invariants.specs.Sound.{Member}
 use Rattle.invariants.specs.Waiting.{Ready}
-use Rattle.invariants.specs.Fair.{Fair}
-use Rattle.invariants.specs.Runs.{Runs, group-runs}
-use Rattle.invariants.specs.Replay.{runs-replay, replay-append, after-append, lasts, lasts-append, paid-append, inside-append}
+use Rattle.invariants.specs.Runs.{Runs}
+use Rattle.invariants.proofs.Runs.{group-runs}
 use Rattle.invariants.proofs.Replay.{replay-ready}
 use Rattle.invariants.specs.Paid.{group-lasts}
 use Rattle.invariants.proofs.Paid.{group-paid, group-inside}
@@ -25,9 +28,16 @@ use Rattle.invariants.specs.Left.{count_left, count-some}
 use Rattle.invariants.proofs.Left.{runs-count}
 use Rattle.invariants.proofs.Burden.{runs-burden}
 use Rattle.invariants.specs.Winner.{Won, no_one, some_one}
-use Rattle.invariants.specs.Picked.{course_at, Candidate, picked}
 use Rattle.invariants.proofs.Picked.{groups-timed, none_worthwhile}
-use Rattle.invariants.specs.Rounds.{After, Replayed, group_at, rest_at, stopped}
+
+module _ (pay : Pay) {way : Way} (f : Fair way) where
+  -- a plan from where the group of i has ended
+  abbrev pub After : List Job → ℕ → ℕ → Plan → Type 0
+  After js t i plan = Replayed way pay (after_all js ((group_at pay f) js t i).parts) (t + ((group_at pay f) js t i).course.time) plan
+
+pub stopped : (way : Way) (pay : Pay) (js : List Job) (t : ℕ) → ((i : ℕ) → Candidate way pay js t i → worthwhile (course_at way pay js t i) ≡ false) → Replayed way pay js t (stop t)
+unfolding after_all lasts paid all_inside
+stopped way pay js t h = record { replay = over; total = refl; inside = refl; never_less = refl; end = omega arith; few = omega arith; short = omega arith; rest = h }
 
 module _ (pay : Pay) {way : Way} (f : Fair way) where
   -- a group worth more than zero, and what is replayed after it

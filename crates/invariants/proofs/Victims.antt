@@ -12,9 +12,10 @@ use Rattle.laws.specs.Circle.{OnCircle, Reaches}
 use Rattle.job.specs.Times.{never}
 use Rattle.gus.specs.View.{View}
 use Rattle.gus.specs.Victims.{circle_of, victim_of, victims_to, victims_of, knot_of}
-use Rattle.invariants.specs.Circles.{circle-met, circle-below, lowest-lowest, same-circle}
+use Rattle.invariants.specs.Circles.{circle-met, circle-below, same-circle}
+use Rattle.invariants.proofs.Circles.{lowest-lowest}
 use Rattle.invariants.specs.Victim.{Candidate, victim-is}
-use Rattle.invariants.specs.Knot.{knot-none}
+use Rattle.invariants.proofs.Knot.{knot-none}
 use Rattle.laws.specs.Rising.{Rising, rising-append}
 use Rattle.laws.specs.Among.{Among, among-at}
 use Rattle.invariants.specs.Victims.{only, victims-are, victims-have}

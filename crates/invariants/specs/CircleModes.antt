@@ -1,7 +1,6 @@
 -- NO MEMBER OF A WAIT CIRCLE IS IN ROLLBACK, whichever jobs were sent back before: a job in rollback asks for nothing, and one that is sent back loses its request.
 use Rattle.std.specs.Prelude.{ℕ, ◌<◌, ◌≤◌, ◌≡◌, refl, Bool, true, false, List}
 use Rattle.std.proofs.Common.{arith, inl, inr}
-use Rattle.laws.specs.Circle.{OnCircle, circle-in}
 use Rattle.job.specs.declared.Job.{Job}
 use Rattle.gus.specs.State.{job_at}
 use Rattle.gus.specs.Waits.{waits_for}
@@ -23,12 +22,9 @@ module _ {js : List Job} (s : Sound js) (is : List ℕ) where
       let r : ℕ = (job_at (settled js is) i).request.resource in
       omega (arith, holder-settled js is r, holder-past s r l)
 
-  waiting-normal : (i : ℕ) → i < 32 → waits_for (settled js is) i < 32 → (job_at (settled js is) i).rolling ≡ false
+  pub waiting-normal : (i : ℕ) → i < 32 → waits_for (settled js is) i < 32 → (job_at (settled js is) i).rolling ≡ false
   waiting-normal i l w = go (job_at (settled js is) i).rolling refl
     where
       go : (b : Bool) → (job_at (settled js is) i).rolling ≡ b → (job_at (settled js is) i).rolling ≡ false
       go false e = e
       go true e = absurd (omega (arith, w, waits-for-nobody i (asks_nothing i l e)))
-
-  pub circle-normal : (i : ℕ) → OnCircle (waits_for (settled js is)) 32 i → (job_at (settled js is) i).rolling ≡ false
-  circle-normal i c = waiting-normal i c.node (circle-in c)

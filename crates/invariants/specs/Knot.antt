@@ -12,7 +12,7 @@ use Rattle.job.specs.Times.{never}
 use Rattle.gus.specs.Waits.{nobody}
 use Rattle.gus.specs.View.{View}
 use Rattle.gus.specs.Victims.{circle_of, victim_of, knot_to, knot_of}
-use Rattle.invariants.specs.Circles.{circle-met, circle-below, lowest-lowest, same-circle}
+use Rattle.invariants.specs.Circles.{circle-met, same-circle}
 use Rattle.invariants.specs.Victim.{victim-is}
 
 -- each circle whose lowest member is below n has a victim
@@ -62,7 +62,3 @@ module _ (v : View) (t : ℕ) where
   -- a circle of never jobs has no victim
   pub knotted-none : {i : ℕ} → Knotted v i → (victim_of v t (circle_of v.waits i)).some ≡ true → ⊥
   knotted-none {i} k e = let c = (victim-is v t (circle_of v.waits i) e).1 in c.real (k.all _ (same-circle k.on (sym c.member)))
-
-  -- where there is no knot every circle has a victim
-  pub knot-none : 32 ≤ knot_of v t → (i : ℕ) → OnCircle v.waits 32 i → (victim_of v t (circle_of v.waits i)).some ≡ true
-  knot-none l i c = elim knot [ inl x ↦ x.1.has (circle_of v.waits i) (circle-below c) (lowest-lowest c) | inr x ↦ absurd (omega (arith, x.below)) ]

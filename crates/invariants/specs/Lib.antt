@@ -19,7 +19,6 @@ pub mod Rounds
 pub mod Given
 pub mod Total
 pub mod End
-pub mod Bound
 pub mod Circles
 pub mod Victim
 pub mod Knot

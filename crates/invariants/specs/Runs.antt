@@ -6,17 +6,11 @@ use Rattle.job.specs.Job.{hold_of, left_in, span_in}
 use Rattle.job.specs.Fit.{Fit}
 use Rattle.gus.specs.declared.Part.{Part}
 use Rattle.gus.specs.State.{job_at, after}
-use Rattle.gus.specs.Waits.{waits_for, chain_of}
-use Rattle.gus.specs.View.{Pay, view_of}
-use Rattle.gus.specs.Course.{start}
-use Rattle.gus.specs.Choice.{Way}
-use Rattle.gus.specs.Group.{part_of, group_of}
+use Rattle.gus.specs.Group.{part_of}
 use Rattle.invariants.specs.Sound.{Free, Sound, Member}
 use Rattle.invariants.specs.Proper.{Proper, Frees, at_other, sound-after, freed}
-use Rattle.invariants.specs.Waiting.{Ready}
-use Rattle.invariants.specs.Chains.{NotIn, Chain, alone, link, asked, chain-of}
-use Rattle.invariants.specs.Fair.{Fair}
-use Rattle.invariants.specs.Along.{Along, ends, goes, grow-along}
+use Rattle.invariants.specs.Chains.{NotIn, Chain, alone, link, asked}
+use Rattle.invariants.specs.Along.{Along, ends, goes}
 
 -- over the jobs js, that were js₀ at the round's start: the job of each part is, where the part starts, as it was then
 pub data Runs (js₀ : List Job) : List Job → List Part → Type 0 where
@@ -28,7 +22,7 @@ abbrev Agree : List Job → List Job → List ℕ → Type 0
 Agree js₀ js [] = Unit {0}
 Agree js₀ js (k ∷ ks) = (job_at js k ≡ job_at js₀ k) × Agree js₀ js ks
 
-agree_refl : (js : List Job) (cs : List ℕ) → Agree js js cs
+pub agree_refl : (js : List Job) (cs : List ℕ) → Agree js js cs
 agree_refl js [] = tt
 agree_refl js (k ∷ ks) = (refl, agree_refl js ks)
 
@@ -52,7 +46,7 @@ moved : {js₀ js : List Job} {i : ℕ} → Member js₀ i → job_at js i ≡ j
 moved m e = record { there = m.there; run_some = rw e m.run_some; rollback_some = rw e m.rollback_some }
 
 -- ALONG THE CHAIN the jobs still to come are as they were, and what the next one asks for is free
-along-runs : {js₀ js : List Job} {cs : List ℕ} {ps : List Part} → Along js₀ cs ps → Chain js₀ cs → Sound js₀ → Sound js → Agree js₀ js cs → Free js (asked js₀ cs) → Runs js₀ js ps
+pub along-runs : {js₀ js : List Job} {cs : List ℕ} {ps : List Part} → Along js₀ cs ps → Chain js₀ cs → Sound js₀ → Sound js → Agree js₀ js cs → Free js (asked js₀ cs) → Runs js₀ js ps
 along-runs {js₀} {js} (ends {i = i} {n = n} e) (alone m) s₀ s a f =
     let p : Part = part_of i (job_at js₀ i).rolling n in
     let all : n ≡ left_in (job_at js₀ i).rolling (job_at js i) = e ∙ ap (left_in (job_at js₀ i).rolling) (sym a.0) in
@@ -78,10 +72,3 @@ along-runs {js₀} {js} (goes {i = i} {k = k} {n = n} {ks = ks} b e stays real a
     } in
     let fr : Free (after js p) r = freed s g r (rw a.0 h) (rw a.0 e) in
     next g a.0 (record { what = r; held = rw a.0 h; gone = fr }) (along-runs {js = after js p} al ch s₀ (sound-after s g) (agree_after js₀ js p (k ∷ ks) ni a.1) fr)
-
--- the group of a job that is left
-pub group-runs : (pay : Pay) {way : Way} {js : List Job} (t i : ℕ) → Fair way → Ready js → Member js i → Runs js js (group_of way (view_of pay js) t i).parts
-unfolding group_of
-group-runs pay {js = js} t i f y m =
-    let c = chain-of y i m in
-    along-runs (grow-along pay js t start f y.sound c.0) c.0 y.sound y.sound (agree_refl js (chain_of (waits_for js) i)) c.1

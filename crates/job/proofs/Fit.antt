@@ -8,7 +8,8 @@ use Rattle.job.specs.Times.{never, plus, or_never, either-or-neither, or-never-l
 use Rattle.job.specs.Job.{hold_of, rollback_of, all_never, granted, ran, rolled_back}
 use Rattle.job.specs.Grant.{granted-none, granted-run, granted-rolling, granted-request, granted-size, granted-rollback, granted-adds, granted-gone, hold-granted-new, rollback-granted-new}
 use Rattle.job.proofs.Grant.{hold-granted, rollback-granted, rollback-granted-free}
-use Rattle.job.specs.Run.{ran-run, ran-rollback, ran-rolling, ran-request, ran-size, hold-ran}
+use Rattle.job.specs.Run.{ran-run, ran-rollback, ran-rolling, ran-request, ran-size}
+use Rattle.job.proofs.Run.{hold-ran}
 use Rattle.job.proofs.Run.{rollback-ran, rollback-ran-le}
 use Rattle.job.specs.Rollback.{rolled_back-run, rolled_back-rollback, rolled_back-request, rolled_back-size}
 use Rattle.job.proofs.Rollback.{rollback-rolled_back, hold-rolled_back-freed, hold-rolled_back-le}

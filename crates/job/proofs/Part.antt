@@ -7,7 +7,8 @@ use Rattle.job.specs.Times.{never}
 use Rattle.job.specs.Job.{hold_of, rollback_of, granted, worked, left_in, span_in}
 use Rattle.job.specs.Grant.{granted-none, granted-run, granted-request}
 use Rattle.job.proofs.Grant.{hold-granted}
-use Rattle.job.specs.Run.{ran-run, hold-ran}
+use Rattle.job.specs.Run.{ran-run}
+use Rattle.job.proofs.Run.{hold-ran}
 use Rattle.job.specs.Rollback.{rolled_back-rollback}
 use Rattle.job.proofs.Rollback.{hold-rolled_back-freed, hold-rolled_back-le}
 use Rattle.job.specs.Fit.{Fit, ended-free}

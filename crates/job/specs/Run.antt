@@ -1,13 +1,12 @@
 -- What a job has after it ran for n.
 use Rattle.std.specs.Prelude.{ℕ, ◌-◌, ◌≡◌, length}
-use Rattle.std.proofs.Common.{arith, ◌∙◌, le-leb}
+use Rattle.std.proofs.Common.{arith, le-leb}
 use Rattle.std.proofs.Math.Path.{refl, ap}
 use Rattle.std.proofs.Math.ListN.{length-map, get_or-map}
 use Rattle.job.specs.declared.Held.{Held}
 use Rattle.job.specs.declared.Job.{Job}
 use Rattle.job.specs.Held.{free, after_run}
-use Rattle.job.specs.Job.{held_at, hold_of, ran}
-use Rattle.job.specs.Entry.{taken}
+use Rattle.job.specs.Job.{held_at, ran}
 
 module _ (n : ℕ) (j : Job) where
   pub ran-run : (ran n j).run ≡ j.run - n
@@ -33,6 +32,3 @@ module _ (n : ℕ) (j : Job) where
   pub entry : (f : Held → ℕ) (r : ℕ) → f (held_at (ran n j) r) ≡ f (after_run n (held_at j r))
   unfolding ran
   entry f r = ap f (rw (le-leb 0 n (omega arith)) at (get_or-map (after_run n) j.held r free))
-
-  pub hold-ran : (r : ℕ) → hold_of (ran n j) r ≡ hold_of j r - n
-  hold-ran r = entry (λ h. h.hold) r ∙ taken (λ h. h.hold) refl (hold_of j r) n _ refl

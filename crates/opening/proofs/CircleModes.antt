@@ -7,7 +7,7 @@ use Rattle.gus.specs.State.{job_at}
 use Rattle.gus.specs.Waits.{waits_for}
 use Rattle.gus.specs.Victims.{victims_of, knot_of, settled}
 use Rattle.invariants.specs.Sound.{Sound}
-use Rattle.invariants.specs.CircleModes.{circle-normal}
+use Rattle.invariants.proofs.CircleModes.{circle-normal}
 use Rattle.invariants.specs.Loss.{view_by_mode, LossesAgree, victims-by-mode, knot-by-mode}
 use Rattle.invariants.proofs.Loss.{losses-agree}
 use Rattle.opening.specs.Start.{jobs_from, pay_from}

@@ -12,7 +12,7 @@ use Rattle.invariants.specs.Fair.{by-density-fair}
 use Rattle.invariants.proofs.Replay.{replay-ready}
 use Rattle.invariants.specs.Rounds.{Replayed}
 use Rattle.invariants.proofs.Rounds.{replayed}
-use Rattle.invariants.specs.Bound.{rounds_few, parts_few}
+use Rattle.invariants.proofs.Bound.{rounds_few, parts_few}
 use Rattle.invariants.proofs.Bound.{total-within, end-within}
 use Rattle.invariants.proofs.Start.{ready-settled}
 use Rattle.opening.specs.Start.{pay_from}

@@ -14,13 +14,12 @@ use Rattle.invariants.specs.Waiting.{Ready}
 use Rattle.invariants.specs.Replay.{Replay}
 use Rattle.invariants.specs.Left.{count_left}
 use Rattle.invariants.specs.Rounds.{Replayed}
-use Rattle.invariants.proofs.Rounds.{replayed}
 use Rattle.invariants.specs.End.{Small}
 use Rattle.invariants.specs.Victims.{victims-few}
 use Rattle.opening.specs.Start.{jobs_from, pay_from}
 use Rattle.opening.specs.Falls.{settled-falls}
 use Rattle.opening.specs.Small.{small-from, small-settled}
-use Rattle.opening.specs.Modest.{Modest, modest}
+use Rattle.opening.specs.Modest.{Modest}
 use Rattle.opening.specs.Few.{few-left}
 
 abbrev pub view_from : Book → View

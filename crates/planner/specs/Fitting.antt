@@ -16,7 +16,8 @@ use Rattle.gus.specs.Round.{best_of, worthwhile}
 use Rattle.invariants.specs.Sound.{Member}
 use Rattle.invariants.specs.Waiting.{Ready}
 use Rattle.invariants.specs.Fair.{Fair}
-use Rattle.invariants.specs.Runs.{Runs, last, next, group-runs}
+use Rattle.invariants.specs.Runs.{Runs, last, next}
+use Rattle.invariants.proofs.Runs.{group-runs}
 use Rattle.invariants.specs.Replay.{runs-replay}
 use Rattle.invariants.proofs.Replay.{replay-ready}
 use Rattle.invariants.specs.Left.{count_left, count_most}

@@ -23,7 +23,7 @@ use Rattle.invariants.proofs.Given.{run_kept, rollback_kept, once-rollback}
 use Rattle.invariants.specs.Picked.{course_at}
 use Rattle.invariants.specs.Rounds.{Replayed}
 use Rattle.replay.specs.Machine.{Machine, step, follow}
-use Rattle.replay.specs.View.{left, view_of_machine}
+use Rattle.replay.specs.View.{view_of_machine}
 use Rattle.replay.specs.Agree.{Agrees, time-left, clock-all}
 use Rattle.replay.proofs.Agree.{agrees_after, earnings-are, agrees-all, paid-all, unpaid-all}
 use Rattle.replay.specs.Moments.{done_by, done_all, grants_add}

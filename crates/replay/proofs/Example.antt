@@ -4,7 +4,7 @@ use Rattle.std.proofs.Common.{sym, ap, ◌∙◌, arith}
 use Rattle.book.specs.Format.{book_of}
 use Rattle.gus.specs.Choice.{by_density}
 use Rattle.gus.specs.Group.{part_of}
-use Rattle.gus.specs.Round.{stop, rounds}
+use Rattle.gus.specs.Round.{stop}
 use Rattle.opening.specs.Planned.{answer_from}
 use Rattle.ilhuepatl.specs.Calls.{outcome_of}
 use Rattle.replay.specs.Machine.{with_victims, machine_from, still_held, earnings, follow}

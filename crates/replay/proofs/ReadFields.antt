@@ -1,5 +1,5 @@
 -- What rests on specs/ReadFields.antt.
-use Rattle.std.specs.Prelude.{◌≡◌, refl, List, [], ◌∷◌, ◌++◌, ℕ, suc, ◌+◌, ◌-◌, ◌*◌, length}
+use Rattle.std.specs.Prelude.{◌≡◌, refl, List, [], ◌∷◌, ◌++◌, ℕ, suc, ◌*◌, length}
 use Rattle.std.proofs.Common.{◌∙◌, append_assoc, arith}
 use Rattle.gus.specs.declared.Part.{Part}
 use Rattle.ilhuepatl.specs.Answer.{part_bytes, parts_bytes}

@@ -9,7 +9,6 @@ use Rattle.gus.specs.Choice.{Way}
 use Rattle.gus.specs.Round.{Plan}
 use Rattle.invariants.specs.Sound.{Sound}
 use Rattle.invariants.specs.Proper.{Proper}
-use Rattle.invariants.specs.Replay.{paid}
 use Rattle.invariants.specs.Left.{count_left}
 use Rattle.invariants.specs.Given.{grant_adds}
 use Rattle.invariants.specs.Rounds.{Replayed}

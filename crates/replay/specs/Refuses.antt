@@ -12,7 +12,8 @@ use Rattle.accepted.proofs.Exactly.{accepted-exactly}
 use Rattle.gus.specs.declared.Part.{Part}
 use Rattle.gus.specs.Choice.{by_density}
 use Rattle.invariants.specs.Knot.{Knotted}
-use Rattle.invariants.proofs.Knot.{knot-is, knot-exactly}
+use Rattle.invariants.proofs.Knot.{knot-is}
+use Rattle.invariants.proofs.KnotExactly.{knot-exactly}
 use Rattle.opening.specs.Planned.{view_from}
 use Rattle.planner.specs.declared.Planned.{Planned}
 use Rattle.planner.specs.Planned.{laid_plan, refused_plan, planned_of}

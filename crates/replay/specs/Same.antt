@@ -4,7 +4,8 @@ use Rattle.std.proofs.Common.{sym, ap, ◌∙◌, arith, lt-ltb, le-ltb}
 use Rattle.std.proofs.Math.Decide.{dec_lt}
 use Rattle.job.specs.declared.Job.{Job}
 use Rattle.job.specs.Job.{hold_of, rollback_of, ran}
-use Rattle.job.specs.Run.{ran-run, ran-rollback, ran-rolling, ran-request, hold-ran}
+use Rattle.job.specs.Run.{ran-run, ran-rollback, ran-rolling, ran-request}
+use Rattle.job.proofs.Run.{hold-ran}
 use Rattle.job.proofs.Run.{rollback-ran}
 use Rattle.book.specs.declared.Entry.{Entry}
 use Rattle.replay.specs.Machine.{MachineJob, still_held, less_hold, has_run, less_rollback}

@@ -1,5 +1,5 @@
 -- THE NUMBER THAT C GETS: what it says, and that nothing of it is lost.
-use Rattle.std.specs.Prelude.{◌≡◌, refl, Bool, true, false, cond, ◌↔◌, List, [], ◌∷◌, ℕ, zero, ◌+◌, ◌*◌, ◌/◌, ◌%◌, ◌<◌, ◌≤◌, length}
+use Rattle.std.specs.Prelude.{◌≡◌, refl, Bool, true, false, cond, ◌↔◌, List, [], ◌∷◌, ℕ, ◌+◌, ◌*◌, ◌/◌, ◌%◌, ◌<◌, ◌≤◌, length}
 use Rattle.std.proofs.Common.{arith}
 use Rattle.book.specs.declared.question.Found.{Found}
 use Rattle.book.specs.Format.{book_of}
@@ -7,7 +7,7 @@ use Rattle.accepted.specs.Layout.{Bytes, two_bytes, jobs_at}
 use Rattle.accepted.specs.Kept.{BookKept}
 use Rattle.accepted.proofs.Exactly.{book-back}
 use Rattle.accepted.specs.Reach.{refusal-near}
-use Rattle.invariants.proofs.Knot.{knot-exactly}
+use Rattle.invariants.proofs.KnotExactly.{knot-exactly}
 use Rattle.gus.specs.declared.Part.{Part}
 use Rattle.opening.specs.Planned.{view_from, answer_from}
 use Rattle.planner.specs.declared.FirstPart.{FirstPart}

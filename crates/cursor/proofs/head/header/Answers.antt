@@ -7,7 +7,7 @@ use mathlib.Core.List.{List}
 use Rattle.cursor.specs.Refusal.{SIZE, VERSION, COUNT, RANGE}
 use Rattle.cursor.specs.Step.{step_of}
 use Rattle.cursor.specs.Header.{Headed, header_from}
-use Rattle.cursor.specs.Stepwise.{stepwise-headed}
+use Rattle.cursor.proofs.Stepwise.{stepwise-headed}
 use Rattle.cursor.proofs.Stepwise.{stepwise}
 use Rattle.cursor.specs.declared.Header.{Header}
 use Rattle.cursor.specs.declared.reader.BookReader.{BookReader}

@@ -5,7 +5,8 @@ use native.Mathlib.Omega.{arith}
 use lib.ListN.{length}
 use Rattle.cursor.specs.Field.{value_at}
 use Rattle.curve.specs.Layout.{piece_place, curve_at, curve_end}
-use Rattle.curve.specs.Question.{stands-many, stands-cut, stands_after, stands-until}
+use Rattle.curve.specs.Question.{stands-many, stands-cut, stands-until}
+use Rattle.curve.proofs.QuestionTheorems.{stands_after}
 use Rattle.curve.proofs.question.worth_at.Goals as goal
 
 pub returns-then-s-place : goal.returns-then-s-place

@@ -11,7 +11,8 @@ use Rattle.curve.specs.declared.Worth.TheVariants.{Of}
 use Rattle.curve.specs.Worth.{no_piece, line_at}
 use Rattle.curve.specs.Walk.{walk-served}
 use Rattle.curve.specs.Layout.{piece_at, piece_place, curve_at}
-use Rattle.curve.specs.Question.{piece-stands, back-begin, back_some, back-next, back_none}
+use Rattle.curve.specs.Question.{piece-stands, back-begin, back_some, back-next}
+use Rattle.curve.proofs.QuestionTheorems.{back_none}
 use Rattle.curve.proofs.question.worth_in.Goals as goal
 
 pub loop-at-init : goal.loop-at-init
