@@ -82,7 +82,7 @@ fn found(path: &str, words: &str) -> io::Result<PathBuf> {
 impl Running {
     pub fn end(mut self) -> io::Result<Ended> {
         let status = self.wait()?;
-        // No proved program ends with a status of its own.
+        // A proved program ends with 0, or with 1 where a read or a write fails.
         if status.and_then(|status| status.code()) == Some(CANNOT_RUN) {
             return Err(io::Error::other(format!("{RUNNER} cannot run {PROGRAM}")));
         }
