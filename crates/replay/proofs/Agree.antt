@@ -1,19 +1,34 @@
 -- What rests on specs/Agree.antt.
-use Rattle.std.specs.Prelude.{◌≡◌, refl, true, List, ℕ, ◌+◌, ◌+ℤ◌}
-use Rattle.std.proofs.Common.{sym, ◌∙◌, arith}
+use Rattle.std.specs.Prelude.{◌≡◌, List, ℕ, ◌<◌, ℤ, length, set, refl, true, ◌+◌, ◌+ℤ◌}
+use Rattle.std.proofs.Common.{◌∙◌, get_or-set_same, get_or-set_other, sym, arith}
+use Rattle.std.proofs.Math.Decide.{ℕ_discrete}
+use Rattle.job.specs.declared.Job.{Job}
+use Rattle.gus.specs.State.{vacant, worked_by, after, after_all}
+use Rattle.gus.specs.View.{Pay}
+use Rattle.invariants.specs.Replay.{paid, Replay, over, then, earns, all_inside, both}
+use Rattle.replay.specs.Machine.{MachineJob, Machine, no_machine_job, job_of, earnings, part_job, step, follow}
+use Rattle.replay.specs.Same.{Same}
+use Rattle.replay.specs.Agree.{Agrees, worth-kept, curve-kept, numbered_below, time-left}
 use Rattle.std.proofs.Math.IntN.{+ℤ_assoc, +ℤ_idr}
 use Rattle.curve.specs.Worth.{defined}
-use Rattle.job.specs.declared.Job.{Job}
 use Rattle.gus.specs.declared.Part.{Part}
-use Rattle.gus.specs.State.{worked_by, after, after_all}
-use Rattle.gus.specs.View.{Pay}
 use Rattle.invariants.specs.Sound.{Sound}
 use Rattle.invariants.specs.Proper.{Proper, sound-after}
-use Rattle.invariants.specs.Replay.{Replay, over, then, earns, paid, all_inside, both}
-use Rattle.replay.specs.Machine.{Machine, job_of, earnings, part_job, step, follow}
-use Rattle.replay.specs.Same.{Same}
 use Rattle.replay.proofs.Granted.{same-worked}
-use Rattle.replay.specs.Agree.{Agrees, agrees-set, curve-kept, numbered_below, time-left, worth-kept}
+
+-- one job of each changed alike
+module _ {pay : Pay} {m : Machine} {js : List Job} (i : ℕ) (x : MachineJob) (y : Job) where
+  pub agrees-set : (clock : ℕ) (paid : ℤ) (unpaid : ℕ) → i < length m.jobs → i < length js → Same x y → x.curve ≡ (job_of m i).curve → Agrees pay m js → Agrees pay (record { clock = clock; paid = paid; unpaid = unpaid; jobs = set m.jobs i x }) (set js i y)
+  agrees-set clock paid unpaid l h s c a = record {
+    same = λ k. elim (ℕ_discrete k i) [
+      | yes e ↦ rw (e, get_or-set_same m.jobs i x no_machine_job l, get_or-set_same js i y vacant h) s
+      | no ne ↦ rw (get_or-set_other m.jobs i k x no_machine_job ne, get_or-set_other js i k y vacant ne) (a.same k)
+    ];
+    worth = λ b k t. elim (ℕ_discrete k i) [
+      | yes e ↦ rw (e, get_or-set_same m.jobs i x no_machine_job l) (worth-kept b t x (job_of m i) c ∙ a.worth b i t)
+      | no ne ↦ rw (get_or-set_other m.jobs i k x no_machine_job ne) (a.worth b k t)
+    ];
+  }
 
 -- ONE PROPER PART
 module _ {pay : Pay} {m : Machine} {js : List Job} {p : Part} (a : Agrees pay m js) (s : Sound js) (g : Proper js p) where

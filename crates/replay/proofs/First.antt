@@ -4,7 +4,8 @@ use Rattle.accepted.specs.Layout.{Bytes}
 use Rattle.planner.specs.Planned.{planned_of}
 use Rattle.planner.specs.First.{first_in}
 use Rattle.ilhuepatl.specs.Calls.{verdict_of}
-use Rattle.replay.specs.Refuses.{Refuses, planned-refuses}
+use Rattle.replay.specs.Refuses.{Refuses}
+use Rattle.replay.proofs.Refuses.{planned-refuses}
 
 -- REFUSED ALIKE, and never for want of room
 pub first-refuses : (s : List ℕ) → Bytes s → Refuses s 0 0 (verdict_of (first_in (planned_of s)).number (first_in (planned_of s)).place)

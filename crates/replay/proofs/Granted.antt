@@ -12,7 +12,8 @@ use Rattle.job.specs.Grant.{granted-none, granted-run, granted-rolling, granted-
 use Rattle.job.specs.Fit.{Fit}
 use Rattle.replay.specs.Machine.{MachineJob, longer, longer_hold, with_request, given}
 use Rattle.replay.specs.Lists.{lists-map, distinct-map}
-use Rattle.replay.specs.Same.{Same, same_lists, same-ran}
+use Rattle.replay.specs.Same.{Same, same_lists}
+use Rattle.replay.proofs.Same.{same-ran}
 use Rattle.replay.proofs.Same.{same-rolled_back}
 use Rattle.replay.specs.Granted.{ask, granted-hold, granted-undo, longer-is, longer-some, new_is, resource}
 

@@ -12,3 +12,4 @@ pub mod Same
 pub mod Whole
 pub mod Words
 pub mod WorthWord
+pub mod WholeLinked

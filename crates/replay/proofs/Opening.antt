@@ -11,7 +11,8 @@ use Rattle.laws.specs.Among.{Among}
 use Rattle.opening.specs.Start.{jobs_from, pay_from}
 use Rattle.opening.proofs.Sound.{sound-from}
 use Rattle.replay.specs.Machine.{MachineJob, numbered, as_victim, with_victims, machine_from}
-use Rattle.replay.specs.Agree.{Agrees, agrees-set}
+use Rattle.replay.specs.Agree.{Agrees}
+use Rattle.replay.proofs.Agree.{agrees-set}
 use Rattle.replay.specs.Opening.{agrees-book, fresh, ms, ms-size, same-victim}
 
 agrees-victims : {pay : Pay} (now : ℕ) (is : List ℕ) (ms : List MachineJob) (js : List Job) → ((i : ℕ) → Among i is → i < length ms) → length ms ≤ length js → Agrees pay (fresh now ms) js → Agrees pay (fresh now (with_victims is ms)) (settled js is)

@@ -1,11 +1,15 @@
 -- What rests on specs/Refuses.antt.
 use Rattle.std.specs.Prelude.{List, ℕ}
-use Rattle.std.proofs.Math.ListN.{length}
 use Rattle.accepted.specs.Layout.{Bytes}
-use Rattle.gus.specs.declared.Part.{Part}
+use Rattle.planner.specs.Planned.{planned_of}
 use Rattle.ilhuepatl.specs.Calls.{verdict_of, outcome_of}
+use Rattle.replay.specs.Refuses.{Refuses, given-plan, given-refuses, given-row, given_out}
+use Rattle.std.proofs.Math.ListN.{length}
+use Rattle.gus.specs.declared.Part.{Part}
 use Rattle.ilhuepatl.specs.Rows.{row_outcome_of}
-use Rattle.replay.specs.Refuses.{Refuses, given-refuses, given-row, given_out}
+
+pub planned-refuses : (s : List ℕ) → Bytes s → Refuses s 0 0 (verdict_of (planned_of s).number (planned_of s).place)
+planned-refuses s b = given-refuses s b (given-plan s)
 
 -- A LENT OUTPUT of 430 bytes
 module _ (s out : List ℕ) where

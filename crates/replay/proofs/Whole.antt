@@ -17,7 +17,7 @@ use Rattle.planner.specs.declared.Planned.{Planned}
 use Rattle.planner.specs.LaidOut.{empty_part}
 use Rattle.planner.specs.Planned.{laid_plan, planned_of}
 use Rattle.ilhuepatl.specs.Answer.{answer_bytes}
-use Rattle.ilhuepatl.specs.Calls.{Outcome, by_plan, outcome_of, word}
+use Rattle.ilhuepatl.specs.Calls.{Outcome, by_plan, outcome_of}
 use Rattle.ilhuepatl.specs.Rows.{RowOutcome, row_outcome_of, by_plan as by_row_plan}
 use Rattle.replay.specs.Machine.{machine_from}
 use Rattle.replay.specs.Sentences.{Demand3}
@@ -71,11 +71,6 @@ module _ (s out : List ℕ) where
     | inl h ↦ absurd (omega (arith, ap (λ (o : Outcome). o.verdict.number) (without-room s out h)))
     | inr h ↦ certain-by (planned_of s) (ends 32 by_density s) h (with-room s out h) e
   ]
-
-  -- for C: the number 0 says the same
-  pub certain-linked : word (outcome_of s out).verdict ≡ 0 → Certain s out
-  unfolding word
-  certain-linked e = certain (omega arith)
 
 module _ (s : List ℕ) (row : List Part) where
   certain-row-by : (p : Planned) → Ends 32 by_density s p → 96 ≤ length row → row_outcome_of s row ≡ by_row_plan p row → (row_outcome_of s row).answer.number ≡ 0 → CertainRow s row

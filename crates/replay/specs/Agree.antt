@@ -1,6 +1,6 @@
 -- The machine and the planner agree, job by job; each proper part keeps that, and pays what the planner reckons.
-use Rattle.std.specs.Prelude.{◌≡◌, refl, Bool, true, false, List, [], ◌∷◌, ℕ, ◌+◌, ◌<◌, ◌≤◌, ℤ, length, set}
-use Rattle.std.proofs.Common.{ap, ◌∙◌, arith, get_or-set_same, get_or-set_other, eq-eqb, ne_eqb}
+use Rattle.std.specs.Prelude.{◌≡◌, refl, Bool, true, false, List, [], ◌∷◌, ℕ, ◌+◌, ◌<◌, ◌≤◌, length}
+use Rattle.std.proofs.Common.{ap, arith, eq-eqb, ne_eqb}
 use Rattle.std.proofs.Math.Decide.{ℕ_discrete, dec_lt}
 use Rattle.std.proofs.Math.ListN.{get_or-eq_default}
 use Rattle.curve.specs.declared.Curve.{Curve}
@@ -8,9 +8,9 @@ use Rattle.curve.specs.Worth.{worth_at}
 use Rattle.job.specs.declared.Job.{Job}
 use Rattle.job.specs.Job.{left_in}
 use Rattle.gus.specs.declared.Part.{Part}
-use Rattle.gus.specs.State.{vacant, job_at}
+use Rattle.gus.specs.State.{job_at}
 use Rattle.gus.specs.View.{Pay}
-use Rattle.invariants.specs.Replay.{lasts, paid}
+use Rattle.invariants.specs.Replay.{lasts}
 use Rattle.replay.specs.Machine.{MachineJob, Machine, no_machine_job, job_of, with_request, given, time_left, finish_worth, step, follow}
 use Rattle.replay.specs.Same.{Same}
 
@@ -43,20 +43,6 @@ worth-kept false t j k e = ap (λ (curve : Curve). worth_at curve t) e
 pub time-left : {m : MachineJob} {j : Job} → Same m j → (b : Bool) → time_left b m ≡ left_in b j
 time-left s true = s.rollback
 time-left s false = s.run
-
--- one job of each changed alike
-module _ {pay : Pay} {m : Machine} {js : List Job} (i : ℕ) (x : MachineJob) (y : Job) where
-  pub agrees-set : (clock : ℕ) (paid : ℤ) (unpaid : ℕ) → i < length m.jobs → i < length js → Same x y → x.curve ≡ (job_of m i).curve → Agrees pay m js → Agrees pay (record { clock = clock; paid = paid; unpaid = unpaid; jobs = set m.jobs i x }) (set js i y)
-  agrees-set clock paid unpaid l h s c a = record {
-    same = λ k. elim (ℕ_discrete k i) [
-      | yes e ↦ rw (e, get_or-set_same m.jobs i x no_machine_job l, get_or-set_same js i y vacant h) s
-      | no ne ↦ rw (get_or-set_other m.jobs i k x no_machine_job ne, get_or-set_other js i k y vacant ne) (a.same k)
-    ];
-    worth = λ b k t. elim (ℕ_discrete k i) [
-      | yes e ↦ rw (e, get_or-set_same m.jobs i x no_machine_job l) (worth-kept b t x (job_of m i) c ∙ a.worth b i t)
-      | no ne ↦ rw (get_or-set_other m.jobs i k x no_machine_job ne) (a.worth b k t)
-    ];
-  }
 
 pub clock-all : (m : Machine) (ps : List Part) → (follow m ps).clock ≡ m.clock + lasts ps
 unfolding follow lasts

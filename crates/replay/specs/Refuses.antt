@@ -132,7 +132,7 @@ module _ (s : List ℕ) (row : List Part) where
       by h p (answers e l) q = rw q (none h e l)
 
 -- NOTHING LENT: "Calls that lend no output never give ROOM"
-given-plan : (s : List ℕ) → Given s 0 0 (verdict_of (planned_of s).number (planned_of s).place)
+pub given-plan : (s : List ℕ) → Given s 0 0 (verdict_of (planned_of s).number (planned_of s).place)
 unfolding laid_plan refused_plan
 given-plan s = by (planned_of s) (ends 32 by_density s)
   where
@@ -140,6 +140,3 @@ given-plan s = by (planned_of s) (ends 32 by_density s)
     by p (refuses l) = reader (omega arith) l
     by p (knots e l) = knot (omega arith) e l
     by p (answers e l) = none (omega arith) e l
-
-pub planned-refuses : (s : List ℕ) → Bytes s → Refuses s 0 0 (verdict_of (planned_of s).number (planned_of s).place)
-planned-refuses s b = given-refuses s b (given-plan s)

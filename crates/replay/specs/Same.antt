@@ -1,16 +1,13 @@
 -- One job of the machine and one of the planner agree: at each time, and each hold. A part of either mode keeps that.
 use Rattle.std.specs.Prelude.{◌≡◌, refl, true, false, List, map, ℕ, ◌-◌, ◌<◌, ◌≤◌, ltb}
-use Rattle.std.proofs.Common.{sym, ap, ◌∙◌, arith, lt-ltb, le-ltb}
+use Rattle.std.proofs.Common.{ap, ◌∙◌, arith, lt-ltb, le-ltb}
 use Rattle.std.proofs.Math.Decide.{dec_lt}
 use Rattle.job.specs.declared.Job.{Job}
-use Rattle.job.specs.Job.{hold_of, rollback_of, ran}
-use Rattle.job.specs.Run.{ran-run, ran-rollback, ran-rolling, ran-request}
-use Rattle.job.proofs.Run.{hold-ran}
-use Rattle.job.proofs.Run.{rollback-ran}
+use Rattle.job.specs.Job.{hold_of, rollback_of}
 use Rattle.book.specs.declared.Entry.{Entry}
-use Rattle.replay.specs.Machine.{MachineJob, still_held, less_hold, has_run, less_rollback}
+use Rattle.replay.specs.Machine.{MachineJob, still_held, less_hold, less_rollback}
 use Rattle.replay.specs.View.{lists, hold_on}
-use Rattle.replay.specs.Lists.{Distinct, Some, listed, distinct-map, some-kept, distinct-kept, lists-is, after-listed, after-unlisted}
+use Rattle.replay.specs.Lists.{Distinct, Some, listed, lists-is, after-listed, after-unlisted}
 
 pub record Same (m : MachineJob) (j : Job) : Type 0 where
   pub rolling : m.rolling ≡ j.rolling
@@ -38,7 +35,7 @@ module _ {m : MachineJob} {j : Job} (s : Same m j) (n : ℕ) where
   has-not r h = same_lists s r ∙ le-ltb 0 (hold_of j r) h
 
   -- it ran for n
-  run-hold : (r : ℕ) → (hold_on (still_held (map (less_hold n) es)) r).hold ≡ hold_of j r - n
+  pub run-hold : (r : ℕ) → (hold_on (still_held (map (less_hold n) es)) r).hold ≡ hold_of j r - n
   run-hold r = elim (dec_lt 0 (hold_of j r)) [
     | yes h ↦ elim (dec_lt n (hold_of j r)) [
       | yes l ↦ rw (after-listed (less_hold n) (λ e. refl) es s.distinct r (has r h).0, lt-ltb 0 ((hold_on es r).hold - n) (omega (arith, s.hold r)), lt-ltb 0 (hold_on es r).rollback (has r h).1) (omega (arith, s.hold r))
@@ -47,22 +44,10 @@ module _ {m : MachineJob} {j : Job} (s : Same m j) (n : ℕ) where
     | no h ↦ rw (after-unlisted (less_hold n) (λ e. refl) es s.distinct r (has-not r (omega arith))) (omega arith)
   ]
 
-  run-undo : (r : ℕ) → n < hold_of j r → (hold_on (still_held (map (less_hold n) es)) r).rollback ≡ rollback_of j r
+  pub run-undo : (r : ℕ) → n < hold_of j r → (hold_on (still_held (map (less_hold n) es)) r).rollback ≡ rollback_of j r
   run-undo r l =
       let h : 0 < hold_of j r = omega arith in
       rw (after-listed (less_hold n) (λ e. refl) es s.distinct r (has r h).0, lt-ltb 0 ((hold_on es r).hold - n) (omega (arith, s.hold r)), lt-ltb 0 (hold_on es r).rollback (has r h).1) (s.undo r h)
-
-  pub same-ran : Same (has_run n m) (ran n j)
-  same-ran = record {
-    rolling = s.rolling ∙ sym (ran-rolling n j);
-    run = omega (arith, s.run, ran-run n j);
-    rollback = s.rollback ∙ sym (ran-rollback n j);
-    request = s.request ∙ sym (ran-request n j);
-    hold = λ r. run-hold r ∙ sym (hold-ran n j r);
-    undo = λ r h. let l : n < hold_of j r = omega (arith, hold-ran n j r) in run-undo r l ∙ sym (rollback-ran n j r l);
-    distinct = distinct-kept (map (less_hold n) es) (distinct-map (less_hold n) (λ e. refl) es s.distinct);
-    some = some-kept (map (less_hold n) es);
-  }
 
   -- it rolled back for n
   pub undone : (r : ℕ) → 0 < hold_of j r → n < rollback_of j r → hold_on (still_held (map (less_rollback n) es)) r ≡ less_rollback n (hold_on es r)
