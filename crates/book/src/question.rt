@@ -65,7 +65,7 @@ pub fn record<'a>(s: &'a [u8], job: usize) -> RecordAnswer<'a>
     }
 }
 
-// The record alone, for callers whose own parameters are plain: those need no walk.
+// The record alone, for callers that ask for no refusal.
 pub fn record_part<'a>(s: &'a [u8], job: usize) -> &'a [u8]
     ensures { IsRecord s.entry job result }
 {

@@ -1,5 +1,5 @@
 // The lent book and the reader's place together, for a caller that reads field by field (01, "Forms for specific places").
-// A function over such a reader is proved by a walk, which takes no branch: `step_from` has the only one.
+// Its functions are thin: what is decided, `step_from` decides.
 ghost use Rattle.std.specs.Prelude.{◌≡◌};
 ghost use Rattle.cursor.specs.Step.{step_of};
 

@@ -36,7 +36,7 @@ ilhuepatl-first-only lifetimes a r r' s s' p q = p ∙ sym q
 ilhuepatl-worth-only : (lifetimes : Lfts 1) → Only (ilhuepatl-worth.Post lifetimes)
 ilhuepatl-worth-only lifetimes a r r' s s' p q = p ∙ sym q
 
--- a walk by hand has no reading of its contract, so this is what `plan_row` promises, and `plan-row-says` that its contract says just this
+-- what `plan_row` promises; `plan-row-says`: its contract says just this
 abbrev RowPost : (lifetimes : Lfts 2) → Args plan-row.signature lifetimes → RowAnswer → AtExit plan-row.ended lifetimes → Type 0
 RowPost lifetimes a r s = record { answer = r; row = s.1.0.now } ≡ row_outcome_of a.0.now a.1.0.now
 

@@ -38,7 +38,7 @@ pub struct RowLaid {
     pub parts: [Part; 96],
 }
 
-// Apart from the loop, whose proof is by hand: there it is one call with a promise.
+// Apart from the loop: there it is one call with a promise.
 fn part_at(parts: [Part; 96], i: usize) -> Part
     requires { i < 96 }
     ensures { result ≡ get_or parts i (part_of 0 false 0) }
@@ -112,7 +112,7 @@ fn planned_row(p: Planned) -> RowPlan
     }
 }
 
-// All that plan_row decides, so that plan_row itself, whose proof is by hand, has no branch.
+// All that plan_row decides, before the row is touched.
 fn plan_for(book: &[u8], room: usize) -> RowPlan
     ensures exact { result ≡ row_plan_of book.now room }
     ensures fits { (result.filled ≤ 96) × (result.filled ≤ room) }
