@@ -1,6 +1,7 @@
 -- `opening::record::job_at` meets its contract: the entries are laid one after the other.
 use mathlib.Core.Path.{◌≡◌, sym, ap, ◌∙◌}
-use Prim.Native.Nat.{◌+◌, ◌≤◌}
+use mathlib.Core.List.{List}
+use Prim.Native.Nat.{ℕ, ◌+◌, ◌<◌, ◌≤◌}
 use native.Mathlib.Omega.{arith}
 use lib.ListN.{length}
 use lib.Seq.{set_out}
@@ -9,45 +10,33 @@ use Rattle.book.specs.declared.Entry.{Entry}
 use Rattle.accepted.specs.Layout.{entry_place, entry_at, held_at}
 use Rattle.opening.specs.declared.head.Head.{Head}
 use Rattle.opening.specs.Start.{with_entry}
-use Rattle.opening.specs.Taken.{held-size, entry-inside, job-made}
+use Rattle.opening.specs.Taken.{head_in, held-size, entry-inside, job-made}
 use Rattle.opening.proofs.record.job_at.Goals as goal
 use Rattle.opening.proofs.record.job_at.Goals.{then-resource-lt32, else-resource-lt32}
+
+-- entry k of the job at a place lies in the book
+inside : (s : List ℕ) (place k : ℕ) {h : Head} → h ≡ head_in s place → k < h.holds → entry_place (place + 10) k + 5 ≤ length s
+inside s place k e l = entry-inside s place k (omega (arith, l, ap (λ (h : Head). h.holds) e))
 
 pub loop-k-init : goal.loop-k-init
 loop-k-init c = count-begin
 
 pub overflow_add-place : goal.overflow_add-place
-overflow_add-place c =
-    let inside : (let a = c.args in entry_place (a.place + 10) c.loop-k.k + 5 ≤ length a.s.now) =
-    let a = c.args in
-    entry-inside a.s.now a.place c.loop-k.k (omega (arith, c.loop-k-test.true, ap (λ (h : Head). h.holds) c.head_at-head.ensures)) in
-    omega (arith, inside)
+overflow_add-place c = omega (arith, inside c.args.s.now c.args.place c.loop-k.k c.head_at-head.ensures c.loop-k-test.true)
 
 pub overflow_mul-k : goal.overflow_mul-k
-overflow_mul-k c =
-    let inside : (let a = c.args in entry_place (a.place + 10) c.loop-k.k + 5 ≤ length a.s.now) =
-    let a = c.args in
-    entry-inside a.s.now a.place c.loop-k.k (omega (arith, c.loop-k-test.true, ap (λ (h : Head). h.holds) c.head_at-head.ensures)) in
-    omega (arith, inside)
+overflow_mul-k c = omega (arith, inside c.args.s.now c.args.place c.loop-k.k c.head_at-head.ensures c.loop-k-test.true)
 
 pub overflow_add-place-in-loop-k : goal.overflow_add-place-in-loop-k
-overflow_add-place-in-loop-k c =
-    let inside : (let a = c.args in entry_place (a.place + 10) c.loop-k.k + 5 ≤ length a.s.now) =
-    let a = c.args in
-    entry-inside a.s.now a.place c.loop-k.k (omega (arith, c.loop-k-test.true, ap (λ (h : Head). h.holds) c.head_at-head.ensures)) in
-    omega (arith, inside)
+overflow_add-place-in-loop-k c = omega (arith, inside c.args.s.now c.args.place c.loop-k.k c.head_at-head.ensures c.loop-k-test.true)
 
 pub entry_there-e-requires : goal.entry_there-e-requires
-entry_there-e-requires c =
-    let inside : (let a = c.args in entry_place (a.place + 10) c.loop-k.k + 5 ≤ length a.s.now) =
-    let a = c.args in
-    entry-inside a.s.now a.place c.loop-k.k (omega (arith, c.loop-k-test.true, ap (λ (h : Head). h.holds) c.head_at-head.ensures)) in
-    omega (arith, inside)
+entry_there-e-requires c = omega (arith, inside c.args.s.now c.args.place c.loop-k.k c.head_at-head.ensures c.loop-k-test.true)
 
 pub loop-k-preserved : goal.loop-k-preserved
 loop-k-preserved c =
-    let here : (let a = c.args in c.entry_there-e.result ≡ held_at a.s.now a.place c.loop-k.k) = let a = c.args in c.entry_there-e.ensures ∙ ap (entry_at a.s.now) (omega arith) in
     let a = c.args in
+    let here : c.entry_there-e.result ≡ held_at a.s.now a.place c.loop-k.k = c.entry_there-e.ensures ∙ ap (entry_at a.s.now) (omega arith) in
     let r = c.entry_there-e.result in
     let laid = ap (λ (e : Entry). with_entry e c.loop-k.held) here in
     let size = ap length c.loop-k.invariant.so_far ∙ held-size a.s.now a.place c.loop-k.k in

@@ -1,4 +1,5 @@
 -- `text::listing::put_plan` meets its contract: its lines, each where the one before it ends.
+use borrow.Author.Rules.{rules}
 use mathlib.Core.Path.{◌≡◌, ◌∙◌}
 use Prim.Native.Nat.{ℕ, ◌+◌}
 use native.Mathlib.Omega.{arith}
@@ -30,7 +31,7 @@ put_close-requires c =
     let a = c.args in
     let w = c.put_victims-next.ensures in
     let x = c.put_parts-last.ensures in
-    let total-fits : SFits w32 a.p.total = record { sfits = c.struct_told-1.given.1.1.1.1.1.1.1.0.1 } in
+    let total-fits : SFits w32 a.p.total = search rules in
     rw (to_z-of_z total-fits) (omega (arith, w.end, x.end, wrote-length w, wrote-length x, plan-length a.p a.first))
 
 pub shape_of-out : goal.shape_of-out
@@ -40,5 +41,5 @@ shape_of-out c =
 pub returns : goal.returns
 unfolding plan_text
 returns c =
-    let total-fits : SFits w32 c.args.p.total = record { sfits = c.struct_told-1.given.1.1.1.1.1.1.1.0.1 } in
+    let total-fits : SFits w32 c.args.p.total = search rules in
     wrote_then (wrote_then c.put_victims-next.ensures c.put_parts-last.ensures) (rw (to_z-of_z total-fits) at c.put_close.ensures)
