@@ -35,11 +35,11 @@ returns-then-s-place-2 c = let a = c.args in sym (stands-cut a.s.now a.place a.t
 pub returns-then-termination-t : goal.returns-then-termination-t
 returns-then-termination-t c =
     let a = c.args in
-    let y = standing a.s.now a.place c.field_there-count.result c.field_there-count.ensures.0 c.if-count-gt8.false c.if-s-place.false c.if-s-place-2.false in
-    sym (stands_after a.s.now a.place y.few y.whole a.t (omega (arith, ended y c.field_there-termination.ensures.0, c.if-termination-t.true)))
+    let y = standing a.s.now a.place c.field_there-count.result c.field_there-count.ensures.0 (omega arith) (omega arith) (omega arith) in
+    sym (stands_after a.s.now a.place y.few y.whole a.t (omega (arith, ended y c.field_there-termination.ensures.0)))
 
 pub returns : goal.returns
 returns c =
     let a = c.args in
-    let y = standing a.s.now a.place c.field_there-count.result c.field_there-count.ensures.0 c.if-count-gt8.false c.if-s-place.false c.if-s-place-2.false in
-    c.worth_in.ensures ∙ sym (stands-until a.s.now a.place y.few y.whole a.t (omega (arith, ended y c.field_there-termination.ensures.0, c.if-termination-t.false)))
+    let y = standing a.s.now a.place c.field_there-count.result c.field_there-count.ensures.0 (omega arith) (omega arith) (omega arith) in
+    c.worth_in.ensures ∙ sym (stands-until a.s.now a.place y.few y.whole a.t (omega (arith, ended y c.field_there-termination.ensures.0)))
