@@ -6,8 +6,7 @@ use Rattle.curve.specs.Worth.{worth_at, amount}
 use Rattle.curve.proofs.Bound.{worth-within}
 use Rattle.curve.specs.Layout.{piece_place, curve_at, curve_end}
 use Rattle.curve.specs.Question.{stands}
-use Rattle.book.specs.declared.pieces.CurveRead.{CurveRead}
-use Rattle.book.specs.declared.worth.CurveWorth.{CurveWorth}
+use Rattle.book.specs.Read.{CurveRead, CurveWorth}
 use Rattle.book.specs.Format.{curve_read}
 use Rattle.book.specs.CurveWorth.{alone_read, curve_worth}
 use Rattle.accepted.specs.Fields.{onward}

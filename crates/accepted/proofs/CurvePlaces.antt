@@ -1,10 +1,10 @@
 -- What rests on specs/CurvePlaces.antt.
 use Rattle.std.specs.Prelude.{ℕ, ◌<◌, ◌≡◌, List}
 use Rattle.std.proofs.Common.{ap, ◌∙◌}
-use Rattle.curve.specs.declared.Curve.{Curve}
+use Rattle.curve.specs.Curve.{Curve}
 use Rattle.curve.specs.Worth.{worth_at}
 use Rattle.curve.specs.Question.{worth_from, stands}
-use Rattle.book.specs.declared.Book.{Book}
+use Rattle.book.specs.Read.{Book}
 use Rattle.book.specs.Format.{book_of}
 use Rattle.accepted.specs.Kept.{BookKept}
 use Rattle.accepted.specs.Exactly.{BookGot}

@@ -5,8 +5,8 @@ use Rattle.std.proofs.Math.Path.{refl}
 use Rattle.laws.specs.Count.{upto}
 use Rattle.curve.specs.declared.Piece.{Piece}
 use Rattle.curve.specs.Layout.{piece_place}
-use Rattle.cursor.specs.declared.Reading.{Reading}
-use Rattle.book.specs.declared.pieces.PieceList.{PieceList}
+use Rattle.cursor.specs.Reading.{Reading}
+use Rattle.book.specs.Read.{PieceList}
 use Rattle.cursor.specs.Refusal.{RANGE}
 use Rattle.cursor.specs.Field.{value_at, got_at}
 use Rattle.book.specs.Format.{start_read, signed_read, piece_read, piece_next, pieces_read, curve_read}

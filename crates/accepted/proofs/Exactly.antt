@@ -2,8 +2,8 @@
 use Rattle.std.specs.Prelude.{ℕ, suc, ◌<◌, ◌≤◌, ◌≡◌, refl, ◌↔◌, List}
 use Rattle.std.proofs.Common.{arith}
 use Rattle.laws.specs.Count.{upto}
-use Rattle.cursor.specs.declared.Reading.{Reading}
-use Rattle.book.specs.declared.reader.Records.{Records}
+use Rattle.cursor.specs.Reading.{Reading}
+use Rattle.book.specs.Read.{Records}
 use Rattle.cursor.specs.Field.{got_at}
 use Rattle.cursor.specs.Header.{header_of}
 use Rattle.book.specs.Format.{record_read, record_next, no_records, records_read, book_of}

@@ -4,8 +4,8 @@ use native.Mathlib.Omega.{arith}
 use Rattle.std.proofs.Math.Path.{refl}
 use Rattle.std.proofs.Common.{◌∙◌}
 use Rattle.laws.specs.Count.{upto}
-use Rattle.cursor.specs.declared.Reading.{Reading}
-use Rattle.book.specs.declared.held.HeldList.{HeldList}
+use Rattle.cursor.specs.Reading.{Reading}
+use Rattle.book.specs.Read.{HeldList}
 use Rattle.cursor.specs.Refusal.{RANGE}
 use Rattle.cursor.specs.Field.{value_at, got_at, field_of}
 use Rattle.book.specs.Rules.{least_rollback}

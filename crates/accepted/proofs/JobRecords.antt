@@ -3,7 +3,7 @@ use Rattle.std.specs.Prelude.{ℕ, ◌+◌, ◌<◌, ◌≤◌, List}
 use Rattle.std.proofs.Common.{arith}
 use Rattle.std.proofs.Math.Path.{◌≡◌, refl}
 use Rattle.curve.specs.Layout.{piece_place, curve_at}
-use Rattle.cursor.specs.declared.Reading.{Reading}
+use Rattle.cursor.specs.Reading.{Reading}
 use Rattle.cursor.specs.Refusal.{RANGE, MODE}
 use Rattle.cursor.specs.Field.{value_at, got_at, field_of}
 use Rattle.book.specs.Rules.{mode_ok}

@@ -2,10 +2,8 @@
 use Rattle.std.specs.Prelude.{ℕ, ◌-◌, ◌<◌, ◌≤◌, ◌≡◌, refl, Bool, List, get_or, ltb, leb, eqb}
 use Rattle.std.proofs.Common.{arith}
 use Rattle.std.proofs.Math.ListN.{length}
-use Rattle.cursor.specs.declared.Reading.{Reading}
-use Rattle.book.specs.declared.held.HeldList.{HeldList}
-use Rattle.book.specs.declared.pieces.PieceList.{PieceList}
-use Rattle.book.specs.declared.reader.Records.{Records}
+use Rattle.cursor.specs.Reading.{Reading}
+use Rattle.book.specs.Read.{HeldList, PieceList, Records}
 use Rattle.cursor.specs.Refusal.{SIZE, VERSION, COUNT, RANGE, TWICE, MODE}
 use Rattle.cursor.specs.Field.{got_at, field_of}
 use Rattle.book.specs.Rules.{rollback_ok, request_ok, around_ok, line_ok, mode_ok}

@@ -2,7 +2,7 @@
 use Rattle.std.specs.Prelude.{ℕ, ◌+◌, ◌≤◌, ◌≡◌, List, length}
 use native.Mathlib.Omega.{arith}
 use Rattle.std.proofs.Math.Path.{refl}
-use Rattle.cursor.specs.declared.Reading.{Reading}
+use Rattle.cursor.specs.Reading.{Reading}
 use Rattle.cursor.specs.Refusal.{RANGE}
 use Rattle.cursor.specs.Field.{value_at, got_at, field_of}
 use Rattle.book.specs.Rules.{if_requested}

@@ -2,13 +2,11 @@
 use Prim.Native.Nat.{ℕ}
 use Rattle.std.specs.Prelude.{List}
 use Rattle.curve.specs.declared.Piece.{Piece}
-use Rattle.cursor.specs.declared.Reading.{Reading}
+use Rattle.cursor.specs.Reading.{Reading}
 use Rattle.cursor.specs.Refusal.{RANGE}
 use Rattle.book.specs.Format.{requested_rollback, signed_read, end_read, rollback_read, requested_resource, request_read, unheld_read, held_resource, entry_read, entry_next, held_read, start_read, piece_read, piece_next, pieces_read, curve_read, record_read, record_next, records_read, no_records}
 use Rattle.accepted.specs.Sticks.{Sticks, field-sticks, rule-sticks, sticks-then, loop-sticks-all}
-use Rattle.book.specs.declared.held.HeldList.{HeldList}
-use Rattle.book.specs.declared.pieces.PieceList.{PieceList}
-use Rattle.book.specs.declared.reader.Records.{Records}
+use Rattle.book.specs.Read.{HeldList, PieceList, Records}
 
 pub requested-rollback-sticks : (s : List ℕ) (resource : ℕ) (r : Reading) → Sticks r (requested_rollback s resource r)
 unfolding requested_rollback

@@ -7,7 +7,7 @@ use Rattle.laws.specs.Search.{lt-or-le}
 use Rattle.cursor.specs.Field.{value_at, got_at}
 use Rattle.curve.specs.Layout.{piece_place, curve_at, curve_end}
 use Rattle.curve.specs.Question.{worth_from}
-use Rattle.book.specs.declared.pieces.CurveRead.{CurveRead}
+use Rattle.book.specs.Read.{CurveRead}
 use Rattle.book.specs.CurveWorth.{alone_read, curve_worth}
 use Rattle.accepted.specs.Fields.{onward}
 use Rattle.accepted.specs.Layout.{Bytes}

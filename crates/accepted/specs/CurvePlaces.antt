@@ -2,7 +2,7 @@
 use Rattle.std.specs.Prelude.{ℕ, ◌+◌, ◌<◌, ◌≤◌, ◌≡◌, List, length}
 use Rattle.cursor.specs.Field.{value_at}
 use Rattle.curve.specs.Layout.{curve_at, curve_end}
-use Rattle.book.specs.declared.Book.{Book}
+use Rattle.book.specs.Read.{Book}
 use Rattle.accepted.specs.Layout.{entry_place, curve_place, jobs_at, job_place}
 use Rattle.accepted.specs.Kept.{BookKept}
 use Rattle.accepted.specs.Exactly.{BookGot}

@@ -4,10 +4,10 @@ use Rattle.std.proofs.Common.{arith, lt-ltb, le-ltb}
 use Rattle.std.proofs.Math.Logic.{inl, inr}
 use Rattle.laws.specs.Count.{upto-each}
 use Rattle.laws.specs.Search.{lt-or-le}
-use Rattle.cursor.specs.declared.Reading.{Reading}
+use Rattle.cursor.specs.Reading.{Reading}
 use Rattle.cursor.specs.Refusal.{CUT, RANGE, TAIL}
 use Rattle.cursor.specs.Field.{value_at, judged, read_at, refused_at, got_at, field_of, rule_of}
-use Rattle.book.specs.declared.pieces.PieceList.{PieceList}
+use Rattle.book.specs.Read.{PieceList}
 use Rattle.book.specs.Format.{start_read, signed_read, piece_read, piece_next, pieces_read, end_read, curve_read, tail_read}
 use Rattle.book.specs.CurveWorth.{alone_read, curve_worth}
 

@@ -10,8 +10,8 @@ use Rattle.curve.specs.declared.Piece.{Piece}
 use Rattle.curve.specs.Worth.{no_piece, line_at}
 use Rattle.curve.specs.Layout.{signed_of, piece_place, piece_at, curve_at, curve_end}
 use Rattle.curve.specs.Bound.{Allowed, piece_of}
-use Rattle.cursor.specs.declared.Reading.{Reading}
-use Rattle.book.specs.declared.pieces.PieceList.{PieceList}
+use Rattle.cursor.specs.Reading.{Reading}
+use Rattle.book.specs.Read.{PieceList}
 use Rattle.cursor.specs.Refusal.{RANGE}
 use Rattle.cursor.specs.Field.{value_at, got_at}
 use Rattle.book.specs.Rules.{line_ok}

@@ -6,10 +6,9 @@ use borrow.Author.Tests.{lt-ltb, eq-eqb, eqb-true}
 use Rattle.laws.specs.Count.{upto, upto-each}
 use Rattle.laws.specs.Search.{lt-or-le}
 use Rattle.laws.specs.Listed.{listed, listed-none, listed_next}
-use Rattle.cursor.specs.declared.Reading.{Reading}
+use Rattle.cursor.specs.Reading.{Reading}
 use Rattle.book.specs.declared.Span.{Span}
-use Rattle.book.specs.declared.Book.{Book}
-use Rattle.book.specs.declared.reader.Records.{Records}
+use Rattle.book.specs.Read.{Book, Records}
 use Rattle.cursor.specs.Refusal.{TAIL}
 use Rattle.cursor.specs.Field.{got_at}
 use Rattle.cursor.specs.Header.{header_of}

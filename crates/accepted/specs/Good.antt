@@ -6,8 +6,7 @@ use Rattle.laws.specs.Listed.{listed_at, listed-past, length-listed}
 use Rattle.curve.specs.Worth.{worth_at, amount}
 use Rattle.curve.proofs.Bound.{worth-within}
 use Rattle.book.specs.declared.Entry.{Entry}
-use Rattle.book.specs.declared.Record.{Record}
-use Rattle.book.specs.declared.Book.{Book}
+use Rattle.book.specs.Read.{Record, Book}
 use Rattle.book.specs.Format.{no_entry, empty_record}
 use Rattle.accepted.specs.Layout.{record_at, held_at, jobs_at, resources_at, job_place}
 use Rattle.accepted.specs.Rules.{GoodRecord}

@@ -1,7 +1,7 @@
 -- The header passes exactly when it keeps its rules.
 use Rattle.std.specs.Prelude.{ℕ, ◌≡◌, refl, List, length, leb}
 use Rattle.std.proofs.Common.{arith, le-leb}
-use Rattle.cursor.specs.declared.Header.{Header}
+use Rattle.cursor.specs.Reading.{HeaderRead}
 use Rattle.cursor.specs.Refusal.{SIZE, VERSION, COUNT, RANGE}
 use Rattle.cursor.specs.Field.{value_at, got_at}
 use Rattle.cursor.specs.Header.{header_of}
@@ -9,7 +9,7 @@ use Rattle.accepted.specs.Fields.{onward, field-got, rule-kept}
 use Rattle.accepted.specs.Layout.{jobs_at, resources_at, now_at}
 use Rattle.accepted.specs.Kept.{HeaderKept}
 
-abbrev pub header_at : List ℕ → Header
+abbrev pub header_at : List ℕ → HeaderRead
 header_at s = record { reading = got_at 5 4 (now_at s); jobs = jobs_at s; resources = resources_at s; now = now_at s }
 
 pub header-got : (s : List ℕ) → HeaderKept s → header_of s ≡ header_at s

@@ -9,8 +9,8 @@ use Rattle.std.proofs.Math.Dec.{ltb, eqb}
 use borrow.Author.Tests.{lt-ltb, eq-eqb, ltb-true, eqb-true}
 use Rattle.laws.specs.Count.{upto, upto-each}
 use Rattle.laws.specs.Listed.{listed, listed-none, listed_next}
-use Rattle.cursor.specs.declared.Reading.{Reading}
-use Rattle.book.specs.declared.held.HeldList.{HeldList}
+use Rattle.cursor.specs.Reading.{Reading}
+use Rattle.book.specs.Read.{HeldList}
 use Rattle.cursor.specs.Refusal.{RANGE, TWICE}
 use Rattle.cursor.specs.Field.{value_at, got_at}
 use Rattle.book.specs.Rules.{least_rollback}

@@ -7,7 +7,7 @@ use Rattle.std.proofs.Math.Dec.{eqb}
 use borrow.Author.Tests.{eq-eqb, eqb-true, eqb-false}
 use Rattle.laws.specs.Listed.{listed_at, length-listed}
 use Rattle.job.specs.declared.Request.{Request}
-use Rattle.book.specs.declared.reader.RecordRead.{RecordRead}
+use Rattle.book.specs.Read.{RecordRead}
 use Rattle.cursor.specs.Field.{value_at}
 use Rattle.book.specs.Rules.{mode_ok}
 use Rattle.book.specs.Format.{no_entry}

@@ -5,7 +5,7 @@ use Rattle.laws.specs.Listed.{listed}
 use Rattle.curve.specs.Layout.{curve_at, curve_end}
 use Rattle.job.specs.declared.Request.{Request}
 use Rattle.book.specs.declared.Entry.{Entry}
-use Rattle.book.specs.declared.Record.{Record}
+use Rattle.book.specs.Read.{Record}
 use Rattle.cursor.specs.Field.{value_at}
 use Rattle.book.specs.Format.{no_entry}
 

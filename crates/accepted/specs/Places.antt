@@ -5,8 +5,8 @@ use Rattle.std.proofs.Math.ListN.{length}
 use Rattle.std.proofs.lemmas.Bool.{eqb-false}
 use Rattle.laws.specs.Count.{upto, upto-each}
 use Rattle.laws.specs.Search.{lt-or-le}
-use Rattle.cursor.specs.declared.Reading.{Reading}
-use Rattle.book.specs.declared.Book.{Book}
+use Rattle.cursor.specs.Reading.{Reading}
+use Rattle.book.specs.Read.{Book}
 use Rattle.cursor.specs.Refusal.{SIZE, CUT, TAIL}
 use Rattle.cursor.specs.Field.{value_at, refused_at, got_at, field_of, rule_of}
 use Rattle.book.specs.Format.{tail_read, refused_book}

@@ -3,13 +3,8 @@ use Rattle.std.specs.Prelude.{ℕ, suc, ◌+◌, ◌*◌, ◌-◌, ◌≤◌, �
 use native.Mathlib.Omega.{arith}
 use Rattle.std.proofs.Common.{ltb-false}
 use Rattle.laws.specs.Count.{upto, upto-each}
-use Rattle.cursor.specs.declared.Reading.{Reading}
-use Rattle.cursor.specs.declared.Header.{Header}
-use Rattle.book.specs.declared.Book.{Book}
-use Rattle.book.specs.declared.held.HeldList.{HeldList}
-use Rattle.book.specs.declared.pieces.PieceList.{PieceList}
-use Rattle.book.specs.declared.reader.Records.{Records}
-use Rattle.book.specs.declared.worth.CurveWorth.{CurveWorth}
+use Rattle.cursor.specs.Reading.{Reading, HeaderRead}
+use Rattle.book.specs.Read.{Book, HeldList, PieceList, Records, CurveWorth}
 use Rattle.cursor.specs.Refusal.{SIZE, VERSION, COUNT, RANGE, TWICE, MODE, TAIL}
 use Rattle.cursor.specs.Field.{value_at, judged, read_at, refused_at, got_at, field_of, rule_of}
 use Rattle.book.specs.Rules.{rollback_ok, request_ok, around_ok, line_ok}
@@ -178,7 +173,7 @@ near-refused : {number place : ℕ} → number ≤ 9 → place ≤ 8201 → Near
 unfolding refused_book
 near-refused c h = record { number = c; place = h }
 
-near-accepted : (h : Header) (b : Records) → Near (accepted_book h b)
+near-accepted : (h : HeaderRead) (b : Records) → Near (accepted_book h b)
 unfolding accepted_book
 near-accepted h b = record { number = omega arith; place = omega arith }
 

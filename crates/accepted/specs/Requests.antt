@@ -5,7 +5,7 @@ use Rattle.std.proofs.Math.Path.{refl}
 use Rattle.std.proofs.Math.Bool.{true, false}
 use Rattle.std.proofs.Math.Dec.{eqb}
 use borrow.Author.Tests.{lt-ltb, le-leb, ne_eqb, ltb-true, leb-true, eqb-true}
-use Rattle.cursor.specs.declared.Reading.{Reading}
+use Rattle.cursor.specs.Reading.{Reading}
 use Rattle.cursor.specs.Refusal.{RANGE}
 use Rattle.cursor.specs.Field.{value_at, got_at}
 use Rattle.book.specs.Rules.{rollback_ok, request_ok, if_requested}

@@ -1,11 +1,11 @@
 -- The rules of 01's "Numbers" and "The job book" for one job's record, each said of its value.
 use Rattle.std.specs.Prelude.{ℕ, ◌<◌, ◌≤◌, ◌≡◌, nat_abs, length, get_or}
 use Rattle.std.proofs.Common.{arith}
-use Rattle.curve.specs.declared.Curve.{Curve}
+use Rattle.curve.specs.Curve.{Curve}
 use Rattle.curve.specs.Bound.{Allowed, piece_of}
 use Rattle.job.specs.declared.Request.{Request}
 use Rattle.book.specs.declared.Entry.{Entry}
-use Rattle.book.specs.declared.Record.{Record}
+use Rattle.book.specs.Read.{Record}
 use Rattle.book.specs.Format.{no_entry}
 
 -- "Rollback time: 1 to 30,000, or 65,535, the never mark"

@@ -4,7 +4,7 @@ use native.Mathlib.Omega.{arith}
 use Rattle.std.proofs.Math.Path.{sym, ap}
 use Rattle.std.proofs.Common.{◌∙◌}
 use Rattle.book.specs.declared.Span.{Span}
-use Rattle.book.specs.declared.Book.{Book}
+use Rattle.book.specs.Read.{Book}
 use Rattle.book.specs.Format.{empty_span}
 use Rattle.laws.specs.Listed.{listed_at}
 use Rattle.accepted.specs.Layout.{jobs_at, job_place}

@@ -6,7 +6,7 @@ use Rattle.std.proofs.Common.{ap, ◌∙◌}
 use Rattle.std.proofs.Math.Logic.{inl, inr}
 use Rattle.laws.specs.Count.{upto}
 use Rattle.laws.specs.Search.{lt-or-le}
-use Rattle.cursor.specs.declared.Reading.{Reading}
+use Rattle.cursor.specs.Reading.{Reading}
 use Rattle.cursor.specs.Field.{field_of, rule_of}
 use Rattle.book.specs.Format.{tail_read}
 use Rattle.accepted.specs.Fields.{field-stays, rule-stays}

@@ -1,10 +1,9 @@
 -- The bytes of one curve asked for their worth, computed.
-use Rattle.std.specs.Prelude.{ℕ, ◌≡◌, refl, List, [], ◌∷◌, ◌++◌, map, pos, negsuc, take}
+use Rattle.std.specs.Prelude.{ℕ, ◌≡◌, refl, List, [], ◌∷◌, ◌++◌, map, pos, negsuc, take, None, Some}
 use Rattle.laws.specs.Count.{upto}
 use Rattle.laws.specs.Listed.{listed}
 use Rattle.cursor.specs.Refusal.{CUT, RANGE, TAIL}
 use Rattle.cursor.specs.Field.{value_at, judged, read_at, field_of, rule_of}
-use Rattle.curve.specs.declared.Worth.TheVariants.{None, Of}
 use Rattle.curve.specs.Worth.{worth_in, worth_at}
 use Rattle.curve.specs.Layout.{signed_of}
 use Rattle.curve.specs.Question.{stands_at, worth_from}
@@ -17,7 +16,7 @@ abbrev falling : List ℕ
 falling = 1 ∷ 0 ∷ 0 ∷ 0 ∷ 10 ∷ 0 ∷ 0 ∷ 0 ∷ 5 ∷ 255 ∷ 254 ∷ 0 ∷ 0 ∷ 0 ∷ 20 ∷ []
 
 -- before the start, at it, inside, at termination, after it
-worths : map (λ t. (curve_worth falling t).worth) (9 ∷ 10 ∷ 13 ∷ 20 ∷ 21 ∷ []) ≡ None ∷ Of (pos 5) ∷ Of (negsuc 0) ∷ Of (negsuc 14) ∷ None ∷ []
+worths : map (λ t. (curve_worth falling t).worth) (9 ∷ 10 ∷ 13 ∷ 20 ∷ 21 ∷ []) ≡ None ∷ Some (pos 5) ∷ Some (negsuc 0) ∷ Some (negsuc 14) ∷ None ∷ []
 unfolding curve_worth curve_read pieces_read piece_next piece_read start_read signed_read end_read tail_read field_of rule_of read_at judged value_at upto around_ok line_ok signed_of worth_from stands_at worth_at worth_in listed
 worths = refl
 

@@ -2,7 +2,7 @@
 use Rattle.std.specs.Prelude.{ℕ, ◌≡◌, refl, List, [], ◌∷◌, ◌++◌, map, length, get_or, take, pos}
 use Rattle.laws.specs.Count.{upto}
 use Rattle.curve.specs.Worth.{no_piece}
-use Rattle.book.specs.declared.Record.{Record}
+use Rattle.book.specs.Read.{Record}
 use Rattle.cursor.specs.Refusal.{SIZE, VERSION, COUNT, CUT, RANGE, TWICE, MODE, TAIL}
 use Rattle.cursor.specs.Field.{value_at, judged, read_at, field_of, rule_of}
 use Rattle.curve.specs.Layout.{signed_of}

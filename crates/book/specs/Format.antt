@@ -4,20 +4,10 @@ use Rattle.laws.specs.Count.{upto}
 use Rattle.curve.specs.declared.Piece.{Piece}
 use Rattle.curve.specs.Worth.{no_piece}
 use Rattle.curve.specs.Layout.{piece_from}
-use Rattle.cursor.specs.declared.Reading.{Reading}
-use Rattle.cursor.specs.declared.Header.{Header}
+use Rattle.cursor.specs.Reading.{Reading, HeaderRead}
 use Rattle.book.specs.declared.Entry.{Entry}
-use Rattle.book.specs.declared.Record.{Record}
+use Rattle.book.specs.Read.{Record, Book, Requested, EntryRead, HeldList, PieceRead, PieceList, CurveRead, RecordRead, Records}
 use Rattle.book.specs.declared.Span.{Span}
-use Rattle.book.specs.declared.Book.{Book}
-use Rattle.book.specs.declared.request.Requested.{Requested}
-use Rattle.book.specs.declared.held.EntryRead.{EntryRead}
-use Rattle.book.specs.declared.held.HeldList.{HeldList}
-use Rattle.book.specs.declared.pieces.PieceRead.{PieceRead}
-use Rattle.book.specs.declared.pieces.PieceList.{PieceList}
-use Rattle.book.specs.declared.pieces.CurveRead.{CurveRead}
-use Rattle.book.specs.declared.reader.RecordRead.{RecordRead}
-use Rattle.book.specs.declared.reader.Records.{Records}
 use Rattle.cursor.specs.Refusal.{RANGE, TWICE, MODE, TAIL}
 use Rattle.cursor.specs.Field.{field_of, rule_of}
 use Rattle.cursor.specs.Header.{header_of}
@@ -185,7 +175,7 @@ unfoldable pub tail_read : List ℕ → Reading → Reading
 tail_read s r = rule_of (eqb r.next (length s)) TAIL r.next r
 
 -- THE BOOK: its records, or its refusal alone
-unfoldable pub accepted_book : Header → Records → Book
+unfoldable pub accepted_book : HeaderRead → Records → Book
 accepted_book h b = record {
   number = 0;
   place = 0;

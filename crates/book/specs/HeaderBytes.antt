@@ -1,7 +1,7 @@
 -- The header has 9 bytes, and says of at most 32 jobs.
 use Rattle.std.specs.Prelude.{ℕ, ◌+◌, ◌-◌, ◌<◌, ◌≤◌, ◌≡◌, refl, Bool, List, ltb, leb, length}
 use Rattle.std.proofs.Common.{arith, ltb-true, ltb-false}
-use Rattle.cursor.specs.declared.Reading.{Reading}
+use Rattle.cursor.specs.Reading.{Reading}
 use Rattle.cursor.specs.Refusal.{SIZE, VERSION, COUNT, RANGE}
 use Rattle.cursor.specs.Field.{value_at, refused_at, got_at, judged, read_at, field_of, rule_of}
 use Rattle.cursor.specs.Outcome.{by-test}

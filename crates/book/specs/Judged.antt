@@ -1,8 +1,10 @@
 -- A book judged: its refusal, or what it has but for its records, and where these stand.
-use Rattle.std.specs.Prelude.{ℕ, cond, List, ◌∷◌, map, ltb}
+use Rattle.std.specs.Prelude.{ℕ, cond, List, ◌∷◌, map, ltb, Result, Ok}
 use Rattle.book.specs.declared.Span.{Span}
-use Rattle.book.specs.declared.Book.{Book}
+use Rattle.book.specs.Read.{Book, JudgedBook}
 use Rattle.book.specs.declared.Judged.{Judged}
+use Rattle.cursor.specs.declared.Refusal.{Refusal}
+use Rattle.cursor.specs.Answer.{refuse}
 use Rattle.book.specs.Format.{book_of}
 
 -- where each record starts: the first after the header's 9 bytes, each next one where the one before ends; after the last record, its end
@@ -10,5 +12,13 @@ unfoldable pub starts_of : Book → List ℕ
 starts_of b = cond (ltb 0 b.number) 0 9 ∷ map (λ (x : Span). x.end) b.spans
 
 -- A BOOK JUDGED: all that the book has but its records, and these by their places
-unfoldable pub judged_of : List ℕ → Judged
+unfoldable pub judged_of : List ℕ → JudgedBook
 judged_of s = let b = book_of s in record { number = b.number; place = b.place; now = b.now; jobs = b.jobs; holders = b.holders; starts = starts_of b }
+
+-- what the code answers of it: the refusal, or all of it
+unfoldable pub judgement : JudgedBook → Result Judged Refusal
+judgement b = cond (ltb 0 b.number) (refuse b.number b.place) (Ok (record { now = b.now; jobs = b.jobs; holders = b.holders; starts = b.starts }))
+
+-- and back
+abbrev pub judged_book : Judged → JudgedBook
+judged_book j = record { number = 0; place = 0; now = j.now; jobs = j.jobs; holders = j.holders; starts = j.starts }

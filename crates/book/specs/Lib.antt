@@ -1,4 +1,5 @@
 pub mod Rules
+pub mod Read
 pub mod Format
 pub mod Onward
 pub mod Question

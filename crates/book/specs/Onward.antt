@@ -5,7 +5,7 @@ use Rattle.std.specs.Prelude.{◌≡◌, Bool, List, ltb, length}
 use borrow.Author.Tests.{ltb-true, ltb-false}
 use Rattle.laws.specs.Count.{upto}
 use Rattle.curve.specs.declared.Piece.{Piece}
-use Rattle.cursor.specs.declared.Reading.{Reading}
+use Rattle.cursor.specs.Reading.{Reading}
 use Rattle.cursor.specs.Refusal.{SIZE, VERSION, COUNT, CUT, RANGE, TWICE, MODE, TAIL}
 use Rattle.cursor.specs.Field.{value_at, refused_at, got_at, judged, read_at, field_of, rule_of}
 use Rattle.cursor.specs.Outcome.{by-test}

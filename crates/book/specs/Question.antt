@@ -1,10 +1,12 @@
 -- The record question (01, "hands back one job's record as a part of the book").
-use Rattle.std.specs.Prelude.{ℕ, ◌+◌, ◌-◌, ◌≡◌, cond, List, [], ltb, get_or, take, drop}
+use Rattle.std.specs.Prelude.{ℕ, ◌+◌, ◌-◌, ◌≡◌, cond, List, [], ltb, get_or, take, drop, Option, Some, None, Result, Ok}
 use Rattle.std.proofs.Common.{arith}
 use Rattle.std.specs.Borrow.{Bor}
 use Rattle.book.specs.declared.Span.{Span}
-use Rattle.book.specs.declared.question.Found.{Found}
+use Rattle.book.specs.Read.{Found}
 use Rattle.book.specs.declared.question.RecordAnswer.{RecordAnswer}
+use Rattle.cursor.specs.declared.Refusal.{Refusal}
+use Rattle.cursor.specs.Answer.{refuse}
 use Rattle.book.specs.Format.{book_of, empty_span}
 
 abbrev pub found_at : ℕ → ℕ → Span → Found
@@ -16,6 +18,13 @@ found_in s job =
     let b = book_of s in
     cond (ltb 0 b.number) (found_at b.number b.place empty_span)
     (cond (ltb job b.jobs) (found_at 0 0 (get_or b.spans job empty_span)) (found_at 0 0 empty_span))
+
+-- the same as the code answers it
+unfoldable pub found_answer : List ℕ → ℕ → Result (Option Span) Refusal
+found_answer s job =
+    let b = book_of s in
+    cond (ltb 0 b.number) (refuse b.number b.place)
+    (cond (ltb job b.jobs) (Ok (Some (get_or b.spans job empty_span))) (Ok None))
 
 abbrev pub between : List ℕ → ℕ → ℕ → List ℕ
 between s start end = take (end - start) (drop start s)

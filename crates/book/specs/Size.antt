@@ -3,10 +3,8 @@ use Rattle.std.specs.Prelude.{ℕ, zero, suc, ◌<◌, ◌≡◌, refl, List, lt
 use Rattle.std.proofs.Common.{arith, ◌∙◌, length-set}
 use Rattle.std.proofs.Math.ListN.{length, length-replicate}
 use Rattle.laws.specs.Count.{upto}
-use Rattle.cursor.specs.declared.Reading.{Reading}
-use Rattle.cursor.specs.declared.Header.{Header}
-use Rattle.book.specs.declared.Book.{Book}
-use Rattle.book.specs.declared.reader.Records.{Records}
+use Rattle.cursor.specs.Reading.{Reading, HeaderRead}
+use Rattle.book.specs.Read.{Book, Records}
 use Rattle.cursor.specs.Outcome.{by-test}
 use Rattle.cursor.specs.Header.{header_of}
 use Rattle.book.specs.Format.{empty_record, empty_span, record_next, no_records, records_read, tail_read, accepted_book, refused_book, book_of}
@@ -22,7 +20,7 @@ span-size s resources r zero = length-replicate 32 empty_span
 span-size s resources r (suc i) = length-set (upto (record_next s resources) i (no_records r)).spans i _ ∙ span-size s resources r i
 
 module _ (s : List ℕ) where
-  abbrev h : Header
+  abbrev h : HeaderRead
   h = header_of s
 
   abbrev b : Records

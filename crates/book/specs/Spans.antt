@@ -5,9 +5,7 @@ use Rattle.std.specs.Prelude.{◌≡◌, List, [], ◌∷◌, ltb, length, get_o
 use borrow.Author.Tests.{ltb-false}
 use Rattle.laws.specs.Count.{upto}
 use Rattle.book.specs.declared.Span.{Span}
-use Rattle.book.specs.declared.Book.{Book}
-use Rattle.book.specs.declared.reader.Records.{Records}
-use Rattle.book.specs.declared.question.Found.{Found}
+use Rattle.book.specs.Read.{Book, Records, Found}
 use Rattle.cursor.specs.Outcome.{by-test}
 use Rattle.cursor.specs.Header.{header_of}
 use Rattle.book.specs.Format.{record_read, empty_span, record_next, no_records, records_read, tail_read, accepted_book, refused_book, book_of}

@@ -8,13 +8,11 @@ use Rattle.std.proofs.Math.ListN.{get_or, get_or-map}
 use Rattle.std.proofs.Math.Seq.{get_or-set_same}
 use borrow.Author.Tests.{ltb-false}
 use Rattle.laws.specs.Count.{upto-each}
-use Rattle.cursor.specs.declared.Reading.{Reading}
-use Rattle.cursor.specs.declared.Header.{Header}
+use Rattle.cursor.specs.Reading.{Reading, HeaderRead}
 use Rattle.cursor.specs.Outcome.{by-test}
 use Rattle.cursor.specs.Header.{header_of}
 use Rattle.book.specs.declared.Span.{Span}
-use Rattle.book.specs.declared.Book.{Book}
-use Rattle.book.specs.declared.reader.Records.{Records}
+use Rattle.book.specs.Read.{Book, Records}
 use Rattle.book.specs.Format.{record_read, empty_span, record_next, no_records, records_read, tail_read, accepted_book, refused_book, book_of}
 use Rattle.book.specs.Onward.{Onward, record-on, tail-on, upto-on}
 use Rattle.book.specs.Size.{span-size}
@@ -60,7 +58,7 @@ chained s resources jobs r few = upto-each (Chained r.next) (record_next s resou
 
 -- of the book
 module _ (s : List ℕ) where
-  abbrev h : Header
+  abbrev h : HeaderRead
   h = header_of s
 
   abbrev b : Records

@@ -1,18 +1,13 @@
 // The record question: one job's record as a part of the lent book (01, "Forms for specific places").
 ghost use Rattle.std.specs.Prelude.{◌≡◌, ◌≤◌, length};
-ghost use Rattle.book.specs.Question.{found_in, part_between, IsRecord, Answers};
+ghost use Rattle.book.specs.Question.{found_in, found_answer, part_between, IsRecord, Answers};
 
+use crate::Span;
 use crate::judge::judge;
-
-#[derive(Clone, Copy)]
-pub struct Found {
-    pub number: u8,
-    pub place: usize,
-    pub start: usize,
-    pub end: usize,
-}
+use cursor::Refusal;
 
 // number and place: the refusal's, or 0 and 0. part: the record, and empty where there is none.
+// Numbers, since 01 asks for the part "in an answer with refusal and place beside it"; `find_record` has them as a Result.
 #[derive(Clone, Copy)]
 pub struct RecordAnswer<'a> {
     pub number: u8,
@@ -20,29 +15,18 @@ pub struct RecordAnswer<'a> {
     pub part: &'a [u8],
 }
 
-fn found_at(number: u8, place: usize, start: usize, end: usize) -> Found
-    ensures { result ≡ record { number = number; place = place; start = start; end = end } }
+// Where the record of a job stands in the book, if there is one.
+pub fn find_record(s: &[u8], job: usize) -> Result<Option<Span>, Refusal>
+    ensures { result ≡ found_answer s.now job }
 {
-    Found {
-        number,
-        place,
-        start,
-        end,
+    let book = judge(s)?;
+    if book.jobs <= job {
+        return Ok(None);
     }
-}
-
-// Where the record of a job stands in the book, or the refusal; 0 to 0 where there is none.
-pub fn find_record(s: &[u8], job: usize) -> Found
-    ensures { result ≡ found_in s.now job }
-{
-    let b = judge(s);
-    if 0 < b.number {
-        return found_at(b.number, b.place, 0, 0);
-    }
-    if b.jobs <= job {
-        return found_at(0, 0, 0, 0);
-    }
-    found_at(0, 0, b.starts[job], b.starts[job + 1])
+    Ok(Some(Span {
+        start: book.starts[job],
+        end: book.starts[job + 1],
+    }))
 }
 
 fn part<'a>(s: &'a [u8], start: usize, end: usize) -> &'a [u8]
@@ -56,12 +40,22 @@ fn part<'a>(s: &'a [u8], start: usize, end: usize) -> &'a [u8]
 pub fn record<'a>(s: &'a [u8], job: usize) -> RecordAnswer<'a>
     ensures { Answers s.entry job result }
 {
-    let f = find_record(s, job);
-    let p = part(s, f.start, f.end);
-    RecordAnswer {
-        number: f.number,
-        place: f.place,
-        part: p,
+    match find_record(s, job) {
+        Ok(Some(span)) => RecordAnswer {
+            number: 0,
+            place: 0,
+            part: part(s, span.start, span.end),
+        },
+        Ok(None) => RecordAnswer {
+            number: 0,
+            place: 0,
+            part: part(s, 0, 0),
+        },
+        Err(refusal) => RecordAnswer {
+            number: refusal.number,
+            place: refusal.place,
+            part: part(s, 0, 0),
+        },
     }
 }
 

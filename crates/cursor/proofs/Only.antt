@@ -13,11 +13,13 @@ use contract.Lifetimes.{Lfts}
 use contract.Monad.{Fun, conj, fact}
 use denote.Ref.{Bor}
 use denote.Triple.Clauses.{AtExit}
-use Rattle.cursor.specs.declared.Reading.{Reading}
 use Rattle.cursor.specs.declared.Header.{Header}
-use Rattle.cursor.specs.declared.reader.Step.{Step}
 use Rattle.cursor.specs.declared.reader.BookReader.{BookReader}
 use Rattle.cursor.specs.declared.reader.NextField.{NextField}
+use Rattle.std.specs.Prelude.{Result}
+use Rattle.cursor.specs.declared.FieldRead.{FieldRead}
+use Rattle.cursor.specs.declared.Refusal.{Refusal}
+use Rattle.cursor.specs.Step.{place_after}
 use Rattle.cursor.proofs.Both.{both}
 use Rattle.cursor.proofs.field.value_at.Kinds as value-at-kinds
 use Rattle.cursor.proofs.field.value_at.Reads as value-at
@@ -27,8 +29,6 @@ use Rattle.cursor.proofs.field.rule.Kinds as rule-kinds
 use Rattle.cursor.proofs.field.rule.Reads as rule
 use Rattle.cursor.proofs.head.header.Kinds as header-kinds
 use Rattle.cursor.proofs.head.header.Reads as header
-use Rattle.cursor.proofs.reader.step_from.Kinds as step-from-kinds
-use Rattle.cursor.proofs.reader.step_from.Reads as step_from
 use Rattle.cursor.specs.contracts.reader.open_reader as open-reader
 use Rattle.cursor.specs.contracts.reader.next_field as next_field
 use Rattle.cursor.specs.contracts.reader.place_of as place_of
@@ -37,26 +37,22 @@ value-at-only : (κs : Lfts 1) (s : Bor (List ℕ)) (place n r r' : ℕ) (e e' :
     → value-at.Post κs (s, (place, (n, tt))) r e → value-at.Post κs (s, (place, (n, tt))) r' e' → r ≡ r'
 value-at-only κs s place n r r' e e' p q = p.0 ∙ sym q.0
 
-field-only : (κs : Lfts 1) (s : Bor (List ℕ)) (r : Reading) (n low high number : ℕ) (o o' : Reading) (e e' : AtExit (ended_of 1 field-kinds.ps field-kinds.r) κs)
-    → field.Post κs (s, (r, (n, (low, (high, (number, tt)))))) o e → field.Post κs (s, (r, (n, (low, (high, (number, tt)))))) o' e' → o ≡ o'
-field-only κs s r n low high number o o' e e' p q = p.is ∙ sym q.is
+field-only : (κs : Lfts 1) (s : Bor (List ℕ)) (place n low high number : ℕ) (o o' : Result FieldRead Refusal) (e e' : AtExit (ended_of 1 field-kinds.ps field-kinds.r) κs)
+    → field.Post κs (s, (place, (n, (low, (high, (number, tt)))))) o e → field.Post κs (s, (place, (n, (low, (high, (number, tt)))))) o' e' → o ≡ o'
+field-only κs s place n low high number o o' e e' p q = p ∙ sym q
 
-rule-only : (r : Reading) (ok : Bool) (number place : ℕ) (o o' : Reading) (e e' : AtExit (ended_of 0 rule-kinds.ps rule-kinds.r) tt)
-    → rule.Post tt (r, (ok, (number, (place, tt)))) o e → rule.Post tt (r, (ok, (number, (place, tt)))) o' e' → o ≡ o'
-rule-only r ok number place o o' e e' p q = p.is ∙ sym q.is
+rule-only : (f : FieldRead) (ok : Bool) (number place : ℕ) (o o' : Result FieldRead Refusal) (e e' : AtExit (ended_of 0 rule-kinds.ps rule-kinds.r) tt)
+    → rule.Post tt (f, (ok, (number, (place, tt)))) o e → rule.Post tt (f, (ok, (number, (place, tt)))) o' e' → o ≡ o'
+rule-only f ok number place o o' e e' p q = p ∙ sym q
 
-header-only : (κs : Lfts 1) (s : Bor (List ℕ)) (o o' : Header) (e e' : AtExit (ended_of 1 header-kinds.ps header-kinds.r) κs) → header.Post κs (s, tt) o e → header.Post κs (s, tt) o' e' → o ≡ o'
+header-only : (κs : Lfts 1) (s : Bor (List ℕ)) (o o' : Result Header Refusal) (e e' : AtExit (ended_of 1 header-kinds.ps header-kinds.r) κs) → header.Post κs (s, tt) o e → header.Post κs (s, tt) o' e' → o ≡ o'
 header-only κs s o o' e e' p q = p.is ∙ sym q.is
-
-step-from-only : (κs : Lfts 1) (s : Bor (List ℕ)) (place n low high number : ℕ) (r r' : Step) (e e' : AtExit (ended_of 1 step-from-kinds.ps step-from-kinds.r) κs)
-    → step_from.Post κs (s, (place, (n, (low, (high, (number, tt)))))) r e → step_from.Post κs (s, (place, (n, (low, (high, (number, tt)))))) r' e' → r ≡ r'
-step-from-only κs s place n low high number r r' e e' p q = p ∙ sym q
 
 same-reader : {r r' : BookReader} → r.book ≡ r'.book → r.place ≡ r'.place → r ≡ r'
 same-reader b p i = record { book = b i; place = p i }
 
-same-field : {x x' : NextField} → x.step ≡ x'.step → x.rest ≡ x'.rest → x ≡ x'
-same-field p r i = record { step = p i; rest = r i }
+same-field : {x x' : NextField} → x.field ≡ x'.field → x.rest ≡ x'.rest → x ≡ x'
+same-field p r i = record { field = p i; rest = r i }
 
 -- A function over a `BookReader` has its contract as an assertion alone: two results that it allows in one state are the same.
 module _ {M : Type 1} {𝓤 : Ura M} (𝓛 : Logic 𝓤) (mem : Memory → SProp 𝓤) (run : Routine → Fun 𝓤) (κs : Lfts 1) where
@@ -66,7 +62,7 @@ module _ {M : Type 1} {𝓤 : Ura M} (𝓛 : Logic 𝓤) (mem : Memory → SProp
 
   next-field-only : (a : BookReader) (n low high number : ℕ) (x x' : NextField) (e e' : AtExit next_field.ended κs)
       → ent 𝓤 (conj 𝓤 ((next_field.clauses 𝓛 mem run κs (a, (n, (low, (high, (number, tt)))))).ensures tt x e) ((next_field.clauses 𝓛 mem run κs (a, (n, (low, (high, (number, tt)))))).ensures tt x' e')) (fact 𝓤 (x ≡ x'))
-  next-field-only a n low high number x x' e e' = both 𝓤 _ _ (x ≡ x') (λ p q. let s : x.step ≡ x'.step = p.0 ∙ sym q.0 in same-field s (same-reader (p.1 ∙ sym q.1) (p.2 ∙ ap (λ (o : Step). o.next) s ∙ sym q.2)))
+  next-field-only a n low high number x x' e e' = both 𝓤 _ _ (x ≡ x') (λ p q. let s : x.field ≡ x'.field = p.0 ∙ sym q.0 in same-field s (same-reader (p.1 ∙ sym q.1) (p.2 ∙ ap (place_after a.place) s ∙ sym q.2)))
 
   place-of-only : (a : BookReader) (p p' : ℕ) (e e' : AtExit place_of.ended κs)
       → ent 𝓤 (conj 𝓤 ((place_of.clauses 𝓛 mem run κs (a, tt)).ensures tt p e) ((place_of.clauses 𝓛 mem run κs (a, tt)).ensures tt p' e')) (fact 𝓤 (p ≡ p'))

@@ -1,7 +1,7 @@
 -- What rests on specs/Outcome.antt.
 use Prim.Native.Nat.{ℕ, ◌<◌, ◌≤◌, zero-le}
 use Rattle.std.specs.Prelude.{List, ltb}
-use Rattle.cursor.specs.declared.Reading.{Reading}
+use Rattle.cursor.specs.Reading.{Reading}
 use Rattle.cursor.specs.Field.{field_of}
 use Rattle.cursor.specs.Outcome.{Outcome, by-test, read-outcome, got, refused}
 

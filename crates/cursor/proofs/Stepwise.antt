@@ -2,23 +2,15 @@
 use Prim.Native.Nat.{ℕ, zero, suc, ◌<◌}
 use native.Mathlib.Omega.{arith}
 use Rattle.std.specs.Prelude.{◌≡◌, List, leb, length}
-use Rattle.cursor.specs.declared.Header.{Header}
 use Rattle.cursor.specs.Refusal.{COUNT, RANGE, SIZE, VERSION}
-use Rattle.cursor.proofs.Outcome.{field-small}
-use Rattle.cursor.specs.Header.{header_of, Headed, after_step, header_from}
+use Rattle.cursor.specs.Header.{header_of, after_step, header_from}
 use Rattle.std.proofs.Math.Path.{refl}
 use borrow.Author.Tests.{lt-ltb}
-use Rattle.cursor.specs.declared.Reading.{Reading}
-use Rattle.cursor.specs.declared.reader.Step.{Step}
+use Rattle.cursor.specs.Reading.{Reading, Step}
 use Rattle.cursor.specs.Field.{got_at, field_of, rule_of}
 use Rattle.cursor.specs.Outcome.{by-test, read-outcome}
 use Rattle.cursor.specs.Step.{step_of}
 use Rattle.cursor.specs.Stepwise.{Stands, after-stands, from-there}
-
-module _ (s : List ℕ) where
-  pub stepwise-headed : (o : Header) → o ≡ header_of s → Headed s o
-  unfolding header_of
-  stepwise-headed o e = record { is = e; few = rw e (field-small s 1 0 32 COUNT (omega arith) _); soon = rw e (field-small s 4 0 2147483647 RANGE (omega arith) _) }
 
 module _ (s : List ℕ) where
   module _ (n low high number : ℕ) (known : 0 < number) where

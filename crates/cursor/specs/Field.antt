@@ -1,6 +1,6 @@
 -- One field of the book, and one further rule on what was read. The first refusal met stays.
-use Rattle.std.specs.Prelude.{ℕ, ◌+◌, ◌*◌, ◌-◌, ◌≤◌, Bool, cond, List, ◌≡◌, length, get_or, ltb, leb, eqb}
-use Rattle.cursor.specs.declared.Reading.{Reading}
+use Rattle.std.specs.Prelude.{ℕ, ◌+◌, ◌*◌, ◌-◌, Bool, cond, List, length, get_or, ltb, leb, eqb}
+use Rattle.cursor.specs.Reading.{Reading}
 use Rattle.cursor.specs.Refusal.{CUT}
 
 -- the number of the n bytes at a place, the most significant first; n is 1, 2 or 4, and any other n gives 0
@@ -39,8 +39,3 @@ field_of s n low high number r = cond (ltb 0 r.number) (refused_at r.number r.pl
 -- A FURTHER RULE on what was read, or else that refusal at that place
 unfoldable pub rule_of : Bool → ℕ → ℕ → Reading → Reading
 rule_of ok number place r = cond (ltb 0 r.number) (refused_at r.number r.place) (cond ok r (refused_at number place))
-
--- the reading e, whose value is at most high: what the code passes on to its casts
-pub record Is (e : Reading) (high : ℕ) (o : Reading) : Type 0 where
-  pub is : o ≡ e
-  pub small : o.value ≤ high

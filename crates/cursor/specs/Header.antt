@@ -1,13 +1,12 @@
 -- The book's header: as its list of fields, and as what five steps of a reader make of it. That both are one is in `Stepwise`.
-use Rattle.std.specs.Prelude.{ℕ, ◌≤◌, ◌≡◌, cond, List, ltb, leb, length}
-use Rattle.cursor.specs.declared.Reading.{Reading}
-use Rattle.cursor.specs.declared.Header.{Header}
-use Rattle.cursor.specs.declared.reader.Step.{Step}
+use Rattle.std.specs.Prelude.{ℕ, cond, List, ltb, leb, length}
+use Rattle.cursor.specs.Reading.{Reading, HeaderRead}
+use Rattle.cursor.specs.Reading.{Step}
 use Rattle.cursor.specs.Refusal.{SIZE, VERSION, COUNT, RANGE}
 use Rattle.cursor.specs.Field.{refused_at, got_at, field_of, rule_of}
 
 -- THE HEADER: "length 2 bytes (the whole book), version 1 byte (1), jobs 1, resources 1, now 4"
-unfoldable pub header_of : List ℕ → Header
+unfoldable pub header_of : List ℕ → HeaderRead
 header_of s =
     let least = rule_of (leb 9 (length s)) SIZE 0 (got_at 0 0 0) in
     let size = field_of s 2 (length s) (length s) SIZE least in
@@ -17,12 +16,6 @@ header_of s =
     let now = field_of s 4 0 2147483647 RANGE resources in
     record { reading = now; jobs = jobs.value; resources = resources.value; now = now.value }
 
--- a header, with the bounds that the code passes on
-pub record Headed (s : List ℕ) (o : Header) : Type 0 where
-  pub is : o ≡ header_of s
-  pub few : o.jobs ≤ 32
-  pub soon : o.now ≤ 2147483647
-
 -- ---- FROM STEPS: the refusal met before a step stays, else the step's own; and else the step's field was read
 unfoldable pub after_step : Reading → Step → Reading
 after_step r x =
@@ -31,7 +24,7 @@ after_step r x =
     (record { number = 0; place = x.place; next = x.next; value = x.value }))
 
 -- the header of a book of that many bytes
-unfoldable pub header_from : ℕ → Step → Step → Step → Step → Step → Header
+unfoldable pub header_from : ℕ → Step → Step → Step → Step → Step → HeaderRead
 header_from bytes length version jobs resources now =
     let least = rule_of (leb 9 bytes) SIZE 0 (got_at 0 0 0) in
     let after-length = after_step least length in

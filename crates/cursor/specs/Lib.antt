@@ -1,7 +1,9 @@
 pub mod Refusal
+pub mod Reading
 pub mod Field
 pub mod Value
 pub mod Outcome
 pub mod Step
 pub mod Header
+pub mod Answer
 pub mod Stepwise

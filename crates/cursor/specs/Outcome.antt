@@ -2,7 +2,7 @@
 use Prim.Native.Nat.{ℕ, ◌-◌, ◌<◌, ◌≤◌}
 use Rattle.std.proofs.Common.{arith, ltb-false}
 use Rattle.std.specs.Prelude.{◌≡◌, refl, Bool, true, false, cond, List, ltb, length}
-use Rattle.cursor.specs.declared.Reading.{Reading}
+use Rattle.cursor.specs.Reading.{Reading}
 use Rattle.cursor.specs.Refusal.{CUT}
 use Rattle.cursor.specs.Field.{value_at, refused_at, got_at, judged, read_at}
 

@@ -1,12 +1,13 @@
 -- One step of a reader that carries the lent book and its place.
 use Prim.Native.Nat.{ℕ, ◌+◌, ◌<◌, zero, suc}
 use native.Mathlib.Omega.{arith}
-use Rattle.std.specs.Prelude.{◌≡◌, List, ltb}
+use Rattle.std.specs.Prelude.{◌≡◌, List, ltb, Result, Ok, Err}
 use Rattle.std.proofs.Math.Path.{refl}
 use Rattle.std.proofs.Math.Bool.{cond}
 use borrow.Author.Tests.{lt-ltb, le-ltb}
-use Rattle.cursor.specs.declared.Reading.{Reading}
-use Rattle.cursor.specs.declared.reader.Step.{Step}
+use Rattle.cursor.specs.Reading.{Reading, Step}
+use Rattle.cursor.specs.declared.FieldRead.{FieldRead}
+use Rattle.cursor.specs.declared.Refusal.{Refusal}
 use Rattle.cursor.specs.Field.{refused_at, got_at, field_of}
 
 -- a reader that has refused nothing yet
@@ -18,6 +19,11 @@ unfoldable pub step_of : List ℕ → ℕ → ℕ → ℕ → ℕ → ℕ → St
 step_of s place n low high number =
     let f = field_of s n low high number (stands_at place) in
     record { number = f.number; place = f.place; value = f.value; next = cond (ltb f.next place) place f.next }
+
+-- where a reader that stood at a place stands after a field or a refusal
+abbrev pub place_after : ℕ → Result FieldRead Refusal → ℕ
+place_after place (Ok f) = f.next
+place_after place (Err d) = place
 
 -- the two outcomes, by those of the field: a refusal with any number, and a value
 module _ (s : List ℕ) (place n low high number : ℕ) where

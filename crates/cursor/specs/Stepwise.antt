@@ -4,8 +4,7 @@ use native.Mathlib.Omega.{arith}
 use Rattle.std.specs.Prelude.{◌≡◌, List, ltb}
 use Rattle.std.proofs.Math.Path.{refl}
 use borrow.Author.Tests.{ltb-true, lt-ltb, le-ltb}
-use Rattle.cursor.specs.declared.Reading.{Reading}
-use Rattle.cursor.specs.declared.reader.Step.{Step}
+use Rattle.cursor.specs.Reading.{Reading, Step}
 use Rattle.cursor.specs.Field.{read_at, field_of}
 use Rattle.cursor.specs.Outcome.{by-test, Outcome, refused, got}
 use Rattle.cursor.specs.Step.{step_of, step-refused, step-got}

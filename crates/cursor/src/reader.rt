@@ -1,20 +1,11 @@
 // The lent book and the reader's place together, for a caller that reads field by field (01, "Forms for specific places").
-// Its functions are thin: what is decided, `step_from` decides.
+// Its functions are thin: what is decided, `field` decides.
 ghost use Rattle.std.specs.Prelude.{◌≡◌};
-ghost use Rattle.cursor.specs.Step.{step_of};
+ghost use Rattle.cursor.specs.Answer.{field_at};
+ghost use Rattle.cursor.specs.Step.{place_after};
 
-use crate::Reading;
 use crate::field::field;
-
-// number: 0, or the refusal's. place: the field's first byte, or the refusal's place. value: the field's value, or 0.
-// next: the byte after the field, and after a refusal the place where the reader stood.
-#[derive(Clone, Copy)]
-pub struct Step {
-    pub number: u8,
-    pub place: usize,
-    pub value: usize,
-    pub next: usize,
-}
+use crate::{FieldRead, Refusal};
 
 #[derive(Clone, Copy)]
 pub struct BookReader<'a> {
@@ -22,40 +13,11 @@ pub struct BookReader<'a> {
     pub place: usize,
 }
 
-// A step, and the reader at the step's next.
+// A field or its refusal, and the reader after it: at the byte after the field, and after a refusal where it stood.
 #[derive(Clone, Copy)]
 pub struct NextField<'a> {
-    pub step: Step,
+    pub field: Result<FieldRead, Refusal>,
     pub rest: BookReader<'a>,
-}
-
-// The n bytes at a place, low to high; CUT where they run past the end, and else the refusal with that number.
-// n is 1, 2 or 4, and bytes of any other n count as 0. A number of 0 would read as no refusal.
-pub fn step_from(s: &[u8], place: usize, n: usize, low: usize, high: usize, number: u8) -> Step
-    ensures { result ≡ step_of s.now place n low high number }
-{
-    let stands = Reading {
-        number: 0,
-        place,
-        next: place,
-        value: 0,
-    };
-    let f = field(s, stands, n, low, high, number);
-    // a refused reading's next is 0, whatever its number
-    if f.next < place {
-        return Step {
-            number: f.number,
-            place: f.place,
-            value: f.value,
-            next: place,
-        };
-    }
-    Step {
-        number: f.number,
-        place: f.place,
-        value: f.value,
-        next: f.next,
-    }
 }
 
 pub fn open_reader<'a>(book: &'a [u8]) -> BookReader<'a>
@@ -71,17 +33,18 @@ pub fn next_field<'a>(
     high: usize,
     number: u8,
 ) -> NextField<'a>
-    ensures { (result.step ≡ step_of r.entry.book.now r.entry.place n low high number) × (result.rest.book ≡ r.entry.book) × (result.rest.place ≡ result.step.next) }
+    ensures { (result.field ≡ field_at r.entry.book.now r.entry.place n low high number) × (result.rest.book ≡ r.entry.book) × (result.rest.place ≡ place_after r.entry.place result.field) }
 {
     let book = r.book;
-    let place = place_of(r);
-    let step = step_from(book, place, n, low, high, number);
+    let from = place_of(r);
+    let field = field(book, from, n, low, high, number);
+    let place = match field {
+        Ok(f) => f.next,
+        Err(_) => from,
+    };
     NextField {
-        step,
-        rest: BookReader {
-            book,
-            place: step.next,
-        },
+        field,
+        rest: BookReader { book, place },
     }
 }
 

@@ -1,9 +1,8 @@
 -- What rests on specs/Question.antt.
-use Rattle.std.specs.Prelude.{ℕ, ◌<◌, ◌≤◌, List, ◌≡◌, length}
+use Rattle.std.specs.Prelude.{ℕ, ◌<◌, ◌≤◌, List, ◌≡◌, length, None}
 use Rattle.std.proofs.Common.{arith, ◌∙◌}
 use Rattle.cursor.specs.Field.{value_at}
 use Rattle.curve.specs.declared.Piece.{Piece}
-use Rattle.curve.specs.declared.Worth.TheVariants.{None}
 use Rattle.curve.specs.Worth.{worth_in}
 use Rattle.curve.specs.Walk.{worth-after}
 use Rattle.curve.proofs.Walk.{walk_none}

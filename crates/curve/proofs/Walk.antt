@@ -1,9 +1,8 @@
 -- What rests on specs/Walk.antt.
-use Rattle.std.specs.Prelude.{◌≡◌, List}
+use Rattle.std.specs.Prelude.{◌≡◌, List, None}
 use Rattle.std.proofs.Common.{sym, ◌∙◌}
 use Prim.Native.Nat.{ℕ, ◌≤◌}
 use Rattle.curve.specs.declared.Piece.{Piece}
-use Rattle.curve.specs.declared.Worth.TheVariants.{None}
 use Rattle.curve.specs.Worth.{worth_in}
 use Rattle.curve.specs.Walk.{Walking, none}
 

@@ -2,26 +2,24 @@
 use Prim.Native.Nat.{ℕ, zero, suc, ◌+◌, ◌-◌, ◌<◌, ◌≤◌}
 use Rattle.std.proofs.Common.{not-suc-le-zero, sym, ◌∙◌}
 use native.Mathlib.Omega.{arith}
-use Rattle.std.specs.Prelude.{Bool, true, false, cond, List, ◌≡◌, ltb, leb, length}
+use Rattle.std.specs.Prelude.{Bool, true, false, cond, List, ◌≡◌, ltb, leb, length, ℤ, Option, None, Some}
 use Rattle.std.proofs.Math.Path.{refl}
 use borrow.Author.Tests.{lt-ltb, le-ltb, le-leb, lt-leb}
 use Rattle.cursor.specs.Field.{value_at}
 use Rattle.curve.specs.declared.Piece.{Piece}
-use Rattle.curve.specs.declared.Worth.{Worth}
-use Rattle.curve.specs.declared.Worth.TheVariants.{None, Of}
 use Rattle.curve.specs.Worth.{line_at, worth_in}
 use Rattle.curve.specs.Layout.{piece_at, piece_place, curve_at, curve_end}
 use Rattle.curve.specs.Question.{piece-stands}
 
 -- by the n pieces before a place: the last that starts at or before t; where the bytes begin before it, none
-unfoldable pub worth_back : List ℕ → ℕ → ℕ → ℕ → Worth
+unfoldable pub worth_back : List ℕ → ℕ → ℕ → ℕ → Option ℤ
 worth_back s place t zero = None
 worth_back s place t (suc n) =
     cond (ltb place 10) None
-    (cond (leb (piece_at s (place - 10)).start t) (Of (line_at (piece_at s (place - 10)) t)) (worth_back s (place - 10) t n))
+    (cond (leb (piece_at s (place - 10)).start t) (Some (line_at (piece_at s (place - 10)) t)) (worth_back s (place - 10) t n))
 
 -- THE WORTH OF THE CURVE WHOSE TERMINATION STANDS AT A PLACE, with n pieces before it; none where the bytes end before it does
-unfoldable pub worth_before : List ℕ → ℕ → ℕ → ℕ → Worth
+unfoldable pub worth_before : List ℕ → ℕ → ℕ → ℕ → Option ℤ
 worth_before s end n t = cond (leb (end + 4) (length s)) (cond (ltb (value_at s end 4) t) None (worth_back s end t n)) None
 
 module _ (s : List ℕ) (end n t : ℕ) where
@@ -40,12 +38,12 @@ module _ (s : List ℕ) (end n t : ℕ) where
 -- no piece serves where there is none
 pub before-none : (s : List ℕ) (end t : ℕ) → worth_before s end 0 t ≡ None
 unfolding worth_before worth_back
-before-none s end t = by (leb (end + 4) (length s)) (ltb (value_at s end 4) t)
+before-none s end t = by (leb (end + 4) (length s)) (ltb (value_at s end 4) t) None
   where
-    by : (a b : Bool) → cond a (cond b None None) None ≡ None
-    by true true = refl
-    by true false = refl
-    by false b = refl
+    by : (a b : Bool) (w : Option ℤ) → cond a (cond b w w) w ≡ w
+    by true true w = refl
+    by true false w = refl
+    by false b w = refl
 
 module _ (s : List ℕ) (t place : ℕ) where
   short : (n : ℕ) → 0 < n → place < 10 → worth_back s place t n ≡ None
@@ -53,7 +51,7 @@ module _ (s : List ℕ) (t place : ℕ) where
   short zero h l = absurd (not-suc-le-zero h)
   short (suc n) h l = rw (lt-ltb place 10 l)
 
-  served : (n : ℕ) → 0 < n → 10 ≤ place → (piece_at s (place - 10)).start ≤ t → worth_back s place t n ≡ Of (line_at (piece_at s (place - 10)) t)
+  served : (n : ℕ) → 0 < n → 10 ≤ place → (piece_at s (place - 10)).start ≤ t → worth_back s place t n ≡ Some (line_at (piece_at s (place - 10)) t)
   unfolding worth_back
   served zero h l q = absurd (not-suc-le-zero h)
   served (suc n) h l q = rw (le-ltb place 10 l, le-leb (piece_at s (place - 10)).start t q)
@@ -82,7 +80,7 @@ module _ {s : List ℕ} {t end n : ℕ} where
     backing-short h l = sym (short s t place left h l) ∙ b.same
 
     module _ {p : Piece} (h : 0 < left) (l : 10 ≤ place) (e : p ≡ piece_at s (place - 10)) where
-      pub backing-served : p.start ≤ t → Of (line_at p t) ≡ worth_back s end t n
+      pub backing-served : p.start ≤ t → Some (line_at p t) ≡ worth_back s end t n
       backing-served q = rw e (sym (served s t place left h l (rw e at q)) ∙ b.same)
 
       pub backing-next : t < p.start → Backing s t end n (place - 10) (left - 1)

@@ -4,7 +4,7 @@ use Prim.Native.Nat.{ℕ, suc, ◌*◌, ◌-◌, ◌<◌, ◌≤◌}
 use Rattle.std.proofs.Common.{mul-le-mul_left, arith}
 use Rattle.laws.proofs.Signed.{parts}
 use Rattle.curve.specs.declared.Piece.{Piece}
-use Rattle.curve.specs.declared.Curve.{Curve}
+use Rattle.curve.specs.Curve.{Curve}
 use Rattle.curve.specs.Worth.{no_piece, line_at}
 
 -- "Curve values: -1,000,000 to 1,000,000"

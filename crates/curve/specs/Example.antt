@@ -1,11 +1,10 @@
 -- A curve worked out: from 10 on it falls from 100 by 2 a millisecond, from 20 on it rises from 7 by 1, and it ends at 30.
-use Rattle.std.specs.Prelude.{◌≡◌, refl, true, false, List, [], ◌∷◌, map, ℕ, zero, suc, ◌<◌, pos, negsuc, take, replicate}
+use Rattle.std.specs.Prelude.{◌≡◌, refl, true, false, List, [], ◌∷◌, map, ℕ, zero, suc, ◌<◌, pos, negsuc, take, replicate, None, Some}
 use Rattle.std.proofs.Common.{arith}
 use Rattle.laws.specs.Count.{upto}
 use Rattle.laws.specs.Listed.{listed}
 use Rattle.cursor.specs.Field.{value_at}
-use Rattle.curve.specs.declared.Curve.{Curve}
-use Rattle.curve.specs.declared.Worth.TheVariants.{None, Of}
+use Rattle.curve.specs.Curve.{Curve}
 use Rattle.curve.specs.Worth.{no_piece, line_at, worth_in, worth_at, defined, amount}
 use Rattle.curve.specs.Layout.{signed_of, curve_at}
 use Rattle.curve.specs.Question.{stands_at, worth_from}
@@ -20,15 +19,15 @@ sample = record {
 }
 
 -- before the first start, at it, inside, 1 ms before the next start, at it, at termination, after it
-sample-worth : map (worth_at sample) (9 ∷ 10 ∷ 13 ∷ 19 ∷ 20 ∷ 30 ∷ 31 ∷ []) ≡ None ∷ Of (pos 100) ∷ Of (pos 94) ∷ Of (pos 82) ∷ Of (pos 7) ∷ Of (pos 17) ∷ None ∷ []
+sample-worth : map (worth_at sample) (9 ∷ 10 ∷ 13 ∷ 19 ∷ 20 ∷ 30 ∷ 31 ∷ []) ≡ None ∷ Some (pos 100) ∷ Some (pos 94) ∷ Some (pos 82) ∷ Some (pos 7) ∷ Some (pos 17) ∷ None ∷ []
 unfolding worth_at worth_in
 sample-worth = refl
 
 -- none is not a worth of 0, and where it has to be a number it counts as 0
-none-is-not-zero : map defined (None ∷ Of (pos 0) ∷ Of (negsuc 4) ∷ []) ≡ false ∷ true ∷ true ∷ []
+none-is-not-zero : map defined (None ∷ Some (pos 0) ∷ Some (negsuc 4) ∷ []) ≡ false ∷ true ∷ true ∷ []
 none-is-not-zero = refl
 
-none-counts : map amount (None ∷ Of (pos 0) ∷ Of (negsuc 4) ∷ []) ≡ pos 0 ∷ pos 0 ∷ negsuc 4 ∷ []
+none-counts : map amount (None ∷ Some (pos 0) ∷ Some (negsuc 4) ∷ []) ≡ pos 0 ∷ pos 0 ∷ negsuc 4 ∷ []
 none-counts = refl
 
 -- the rules allow it
@@ -69,7 +68,7 @@ unfolding listed upto value_at signed_of
 stands-there = refl
 
 -- asked where it stands, a byte too early (a count of 7, which the bytes are too few for), past the end; and cut by a byte
-asked : map (λ p. worth_from bytes p 13) (2 ∷ 1 ∷ 27 ∷ []) ≡ Of (pos 94) ∷ None ∷ None ∷ []
+asked : map (λ p. worth_from bytes p 13) (2 ∷ 1 ∷ 27 ∷ []) ≡ Some (pos 94) ∷ None ∷ None ∷ []
 unfolding worth_from stands_at worth_at worth_in listed upto value_at signed_of
 asked = refl
 
@@ -78,7 +77,7 @@ unfolding worth_from stands_at worth_at worth_in listed upto value_at signed_of
 cut = refl
 
 -- asked at its termination with both its pieces, with the last alone, with none; and a byte too far on, where it is cut
-asked-back : map (λ n. worth_before bytes 23 n 13) (2 ∷ 1 ∷ 0 ∷ []) ≡ Of (pos 94) ∷ None ∷ None ∷ []
+asked-back : map (λ n. worth_before bytes 23 n 13) (2 ∷ 1 ∷ 0 ∷ []) ≡ Some (pos 94) ∷ None ∷ None ∷ []
 unfolding worth_before worth_back value_at signed_of
 asked-back = refl
 

@@ -5,7 +5,7 @@ use Rattle.std.proofs.Math.IntN.{sub_ℕ}
 use Rattle.laws.specs.Listed.{listed}
 use Rattle.cursor.specs.Field.{value_at}
 use Rattle.curve.specs.declared.Piece.{Piece}
-use Rattle.curve.specs.declared.Curve.{Curve}
+use Rattle.curve.specs.Curve.{Curve}
 use Rattle.curve.specs.Worth.{no_piece}
 
 -- "signed fields in two's complement": of the numbers 0 to high, those above the half stand for the ones below 0

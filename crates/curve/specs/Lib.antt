@@ -1,3 +1,4 @@
+pub mod Curve
 pub mod Worth
 pub mod Walk
 pub mod Layout

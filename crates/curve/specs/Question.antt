@@ -1,5 +1,5 @@
 -- The question of a curve's worth, over the bytes in which the curve stands.
-use Rattle.std.specs.Prelude.{ℕ, ◌+◌, ◌*◌, ◌-◌, ◌<◌, ◌≤◌, min, Bool, ◌&&◌, List, ◌≡◌, length, get_or}
+use Rattle.std.specs.Prelude.{ℕ, ◌+◌, ◌*◌, ◌-◌, ◌<◌, ◌≤◌, min, Bool, ◌&&◌, List, ◌≡◌, length, get_or, ℤ, Option, None}
 use Rattle.std.proofs.Common.{arith, ◌∙◌}
 use Rattle.std.proofs.Math.Bool.{true, false, cond}
 use Rattle.std.proofs.Math.Path.{refl}
@@ -8,8 +8,6 @@ use borrow.Author.Tests.{le-leb, lt-leb}
 use Rattle.laws.specs.Listed.{listed_at}
 use Rattle.cursor.specs.Field.{value_at}
 use Rattle.curve.specs.declared.Piece.{Piece}
-use Rattle.curve.specs.declared.Worth.{Worth}
-use Rattle.curve.specs.declared.Worth.TheVariants.{None}
 use Rattle.curve.specs.Worth.{no_piece, worth_in, worth_at}
 use Rattle.curve.specs.Walk.{worth-until, Walking, walk-begin, walk-back}
 use Rattle.curve.specs.Layout.{piece_at, piece_place, curve_at, curve_end}
@@ -19,7 +17,7 @@ unfoldable pub stands_at : List ℕ → ℕ → Bool
 stands_at s p = leb (value_at s p 1) 8 && leb (curve_end s p) (length s)
 
 -- THE WORTH OF THE CURVE AT A PLACE; none where no curve stands there
-unfoldable pub worth_from : List ℕ → ℕ → ℕ → Worth
+unfoldable pub worth_from : List ℕ → ℕ → ℕ → Option ℤ
 worth_from s p t = cond (stands_at s p) (worth_at (curve_at s p) t) None
 
 module _ (s : List ℕ) (p : ℕ) where

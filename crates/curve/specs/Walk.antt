@@ -1,13 +1,12 @@
 -- A curve's pieces walked from the last back, up to the one that serves.
-use Rattle.std.specs.Prelude.{◌≡◌, List, get_or}
+use Rattle.std.specs.Prelude.{◌≡◌, List, get_or, None, Some}
 use Rattle.std.proofs.Math.Path.{refl}
 use Rattle.std.proofs.Common.{sym, ◌∙◌, not-suc-le-zero}
 use Prim.Native.Nat.{ℕ, zero, suc, ◌-◌, ◌<◌, ◌≤◌, min}
 use native.Mathlib.Omega.{arith}
 use borrow.Author.Tests.{lt-ltb, le-ltb, le-leb, lt-leb}
 use Rattle.curve.specs.declared.Piece.{Piece}
-use Rattle.curve.specs.declared.Curve.{Curve}
-use Rattle.curve.specs.declared.Worth.TheVariants.{None, Of}
+use Rattle.curve.specs.Curve.{Curve}
 use Rattle.curve.specs.Worth.{no_piece, line_at, worth_in, worth_at}
 
 module _ (c : Curve) (t : ℕ) where
@@ -20,7 +19,7 @@ module _ (c : Curve) (t : ℕ) where
   worth-until h = rw (le-ltb c.end t h)
 
 module _ (pieces : List Piece) (t : ℕ) where
-  served : (k : ℕ) → 0 < k → (get_or pieces (k - 1) no_piece).start ≤ t → worth_in pieces t k ≡ Of (line_at (get_or pieces (k - 1) no_piece) t)
+  served : (k : ℕ) → 0 < k → (get_or pieces (k - 1) no_piece).start ≤ t → worth_in pieces t k ≡ Some (line_at (get_or pieces (k - 1) no_piece) t)
   unfolding worth_in
   served zero h q = absurd (not-suc-le-zero h)
   served (suc k) h q = let e : suc k - 1 ≡ k = omega arith in rw (e, le-leb (get_or pieces k no_piece).start t (rw e at q))
@@ -48,5 +47,5 @@ module _ {pieces : List Piece} {t n : ℕ} where
     pub walk-back : 0 < k → t < (get_or pieces (k - 1) no_piece).start → Walking pieces t n (k - 1)
     walk-back h q = record { within = omega arith; same = sym (passed pieces t k h q) ∙ w.same }
 
-    pub walk-served : 0 < k → (get_or pieces (k - 1) no_piece).start ≤ t → Of (line_at (get_or pieces (k - 1) no_piece) t) ≡ worth_in pieces t n
+    pub walk-served : 0 < k → (get_or pieces (k - 1) no_piece).start ≤ t → Some (line_at (get_or pieces (k - 1) no_piece) t) ≡ worth_in pieces t n
     walk-served h q = sym (served pieces t k h q) ∙ w.same

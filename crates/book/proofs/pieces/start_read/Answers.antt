@@ -1,25 +1,24 @@
 -- `book::pieces::start_read` meets its contract.
-use mathlib.Core.Path.{◌≡◌}
-use Prim.Native.Nat.{ℕ, ◌-◌}
+use Prim.Native.Nat.{◌-◌}
 use native.Mathlib.Omega.{arith}
-use mathlib.Core.Bool.{Bool}
-use mathlib.Core.List.{List}
-use Rattle.curve.specs.declared.Piece.{Piece}
-use Rattle.cursor.specs.declared.Reading.{Reading}
+use mathlib.Core.Path.{◌∙◌, ap}
 use Rattle.cursor.specs.Refusal.{RANGE}
-use Rattle.cursor.specs.Field.{field_of, rule_of}
+use Rattle.cursor.proofs.Says.{field-says, at_ok}
 use Rattle.book.specs.Rules.{line_ok}
 use Rattle.book.specs.Format.{start_read}
+use Rattle.book.proofs.Stops.{by-err, ruled-stops, ruled-says}
 use Rattle.book.proofs.pieces.start_read.Goals as goal
 
--- the lines of `start_read`, each said of what the code has read by then
-module _ (s : List ℕ) (low : ℕ) (last : Piece) (r : Reading) where
-  made : {a o : Reading} {end : ℕ} {ok : Bool} → a ≡ field_of s 4 low 2147483647 RANGE r → end ≡ a.value - 1 → ok ≡ line_ok last end → o ≡ rule_of ok RANGE a.place a → o ≡ start_read s low last r
-  unfolding start_read
-  made a end ok o = rw (← a, ← end, ← ok) o
+pub returns-in_err-a : goal.returns-in_err-a
+unfolding start_read
+returns-in_err-a c = rw (by-err _ c.from_residual.ensures.1) (ruled-stops c.args.s.now 4 c.args.low 2147483647 (λ v. line_ok c.args.last (v - 1)) c.args.at c.field.ensures c.in_err-a.was)
+
+pub overflow_cast-end : goal.overflow_cast-end
+overflow_cast-end c =
+    let p = at_ok 2147483647 (field-says c.args.s.now 4 c.args.low 2147483647 RANGE (omega arith) c.args.at c.field.ensures) c.in_ok-a.was in
+    omega (arith, p.1, c.saturating_sub-end.ensures)
 
 pub returns : goal.returns
-returns c = record {
-  is = made _ _ _ _ c.field-a.ensures.is c.less-end.ensures c.line_ok.ensures c.rule.ensures.is;
-  small = omega (arith, c.rule.ensures.small, c.field-a.ensures.small);
-}
+unfolding start_read
+returns c =
+    ruled-says c.args.s.now 4 c.args.low 2147483647 (λ v. line_ok c.args.last (v - 1)) c.args.at c.field.ensures c.in_ok-a.was (c.line_ok.ensures ∙ ap (line_ok c.args.last) c.saturating_sub-end.ensures) c.rule.ensures

@@ -1,58 +1,83 @@
 -- `book::question::find_record` meets its contract.
-use mathlib.Core.Path.{◌≡◌}
 use Prim.Native.Nat.{ℕ, ◌+◌, ◌≤◌, ◌<◌}
 use native.Mathlib.Omega.{arith}
+use mathlib.Core.Path.{◌≡◌, refl, ap, sym, ◌∙◌}
 use mathlib.Core.List.{List}
 use lib.ListN.{get_or}
 use borrow.Author.Tests.{lt-ltb, le-ltb}
+use Rattle.std.specs.Prelude.{Option, Some, None, Result, Ok, Err}
+use Rattle.std.proofs.lemmas.Result.{MatchResult-at_ok, MatchResult-at_err}
+use Rattle.cursor.specs.declared.Refusal.{Refusal}
 use Rattle.book.specs.declared.Judged.{Judged}
-use Rattle.book.specs.declared.question.Found.{Found}
-use Rattle.book.specs.Format.{empty_span, book_of}
-use Rattle.book.specs.Judged.{judged_of}
+use Rattle.book.specs.declared.Span.{Span}
+use Rattle.book.specs.Format.{book_of}
+use Rattle.book.specs.Judged.{judged_of, judged_book}
 use Rattle.book.specs.Starts.{start_is, end_is, jobs-few}
-use Rattle.book.specs.Question.{found_at, found_in}
+use Rattle.book.specs.Question.{found_answer}
+use Rattle.book.proofs.Stops.{by-err}
+use Rattle.book.proofs.Judgement.{RefusedBook, judgement-means}
 use Rattle.book.proofs.question.find_record.Goals as goal
 
-few : (s : List ℕ) {b : Judged} → b ≡ judged_of s → b.jobs ≤ 32
-unfolding judged_of
-few s is = rw is (jobs-few s)
-
--- the three answers of `found_in`, each from what the code has tested by then
+-- the three answers of `found_answer`, each from what the code knows by then
 module _ (s : List ℕ) (job : ℕ) where
-  refused : {b : Judged} {f : Found} → b ≡ judged_of s → 0 < b.number → f ≡ found_at b.number b.place empty_span → f ≡ found_in s job
-  unfolding found_in judged_of
-  refused is h f = rw (lt-ltb 0 (book_of s).number (rw is at h)) (rw is at f)
+  refused : {d : Refusal} → RefusedBook s d → Err d ≡ found_answer s job
+  unfolding found_answer
+  refused {d} met = rw (met.0, met.1, lt-ltb 0 d.number met.2) refl
 
-  none : {b : Judged} {f : Found} → b ≡ judged_of s → b.number ≤ 0 → b.jobs ≤ job → f ≡ found_at 0 0 empty_span → f ≡ found_in s job
-  unfolding found_in judged_of
-  none is h past f = rw (le-ltb 0 (book_of s).number (rw is at h), le-ltb job (book_of s).jobs (rw is at past)) f
+  module _ {j : Judged} (known : judged_of s ≡ judged_book j) where
+    jobs-are : (book_of s).jobs ≡ j.jobs
+    unfolding judged_of
+    jobs-are = ap (λ x. x.jobs) known
 
-  one : {b : Judged} {f : Found} → b ≡ judged_of s → b.number ≤ 0 → job < b.jobs → f ≡ record { number = 0; place = 0; start = get_or b.starts job 0; end = get_or b.starts (job + 1) 0 } → f ≡ found_in s job
-  unfolding found_in judged_of
-  one is h under f =
-      let inside : job < (book_of s).jobs = rw is at under in
-      rw (le-ltb 0 (book_of s).number (rw is at h), lt-ltb job (book_of s).jobs inside, start_is s job inside, end_is s job) (rw is at f)
+    number-is : (book_of s).number ≡ 0
+    unfolding judged_of
+    number-is = ap (λ x. x.number) known
 
-pub returns-then-b-gt0 : goal.returns-then-b-gt0
-returns-then-b-gt0 c = refused _ c.args.job c.judge-b.ensures c.if-b-gt0.true c.found_at.ensures
+    few : j.jobs ≤ 32
+    few = omega (arith, jobs-few s, jobs-are)
 
-pub returns-then-b-job : goal.returns-then-b-job
-returns-then-b-job c = none _ c.args.job c.judge-b.ensures c.if-b-gt0.false c.if-b-job.true c.found_at-then-b-job.ensures
+    none : j.jobs ≤ job → ◌≡◌ {A = Result (Option Span) Refusal} (Ok None) (found_answer s job)
+    unfolding found_answer
+    none past = rw (number-is, jobs-are, le-ltb job j.jobs past) refl
 
-pub offset_bounds-b-job : goal.offset_bounds-b-job
-offset_bounds-b-job c = omega (arith, few _ c.judge-b.ensures)
+    one : job < j.jobs → ◌≡◌ {A = Result (Option Span) Refusal} (Ok (Some (record { start = get_or j.starts job 0; end = get_or j.starts (job + 1) 0 }))) (found_answer s job)
+    unfolding found_answer judged_of
+    one under =
+        let inside : job < (book_of s).jobs = rw jobs-are under in
+        rw (number-is, jobs-are, lt-ltb job j.jobs under)
+        (λ k. Ok (Some (record { start = (ap (λ x. get_or x.starts job 0) (sym known) ∙ sym (start_is s job inside)) k; end = (ap (λ x. get_or x.starts (job + 1) 0) (sym known) ∙ sym (end_is s job)) k })))
 
-pub bounds-b-job : goal.bounds-b-job
-bounds-b-job c = omega (arith, few _ c.judge-b.ensures)
+pub returns-in_err-book : goal.returns-in_err-book
+returns-in_err-book c =
+    let s = c.args.s.now in
+    rw (by-err _ c.from_residual.ensures.1) (refused s c.args.job (MatchResult-at_err _ _ _ (sym c.judge.ensures ∙ c.in_err-book.was) (judgement-means s)))
 
-pub overflow_add-job : goal.overflow_add-job
-overflow_add-job c = omega (arith, few _ c.judge-b.ensures)
+pub returns-then-book-job : goal.returns-then-book-job
+returns-then-book-job c =
+    let s = c.args.s.now in
+    none s c.args.job (MatchResult-at_ok _ _ _ (sym c.judge.ensures ∙ c.in_ok-book.was) (judgement-means s)) c.if-book-job.true
 
-pub offset_bounds-b-job-2 : goal.offset_bounds-b-job-2
-offset_bounds-b-job-2 c = omega (arith, few _ c.judge-b.ensures)
+pub offset_bounds-book-job : goal.offset_bounds-book-job
+offset_bounds-book-job c =
+    let s = c.args.s.now in
+    omega (arith, few s c.args.job (MatchResult-at_ok _ _ _ (sym c.judge.ensures ∙ c.in_ok-book.was) (judgement-means s)))
 
-pub bounds-b-job-2 : goal.bounds-b-job-2
-bounds-b-job-2 c = omega (arith, few _ c.judge-b.ensures)
+pub bounds-book-job : goal.bounds-book-job
+bounds-book-job c =
+    let s = c.args.s.now in
+    omega (arith, few s c.args.job (MatchResult-at_ok _ _ _ (sym c.judge.ensures ∙ c.in_ok-book.was) (judgement-means s)))
+
+pub offset_bounds-book-job-2 : goal.offset_bounds-book-job-2
+offset_bounds-book-job-2 c =
+    let s = c.args.s.now in
+    omega (arith, few s c.args.job (MatchResult-at_ok _ _ _ (sym c.judge.ensures ∙ c.in_ok-book.was) (judgement-means s)))
+
+pub bounds-book-job-2 : goal.bounds-book-job-2
+bounds-book-job-2 c =
+    let s = c.args.s.now in
+    omega (arith, few s c.args.job (MatchResult-at_ok _ _ _ (sym c.judge.ensures ∙ c.in_ok-book.was) (judgement-means s)))
 
 pub returns : goal.returns
-returns c = one _ c.args.job c.judge-b.ensures c.if-b-gt0.false c.if-b-job.false c.found_at-2.ensures
+returns c =
+    let s = c.args.s.now in
+    one s c.args.job (MatchResult-at_ok _ _ _ (sym c.judge.ensures ∙ c.in_ok-book.was) (judgement-means s)) c.if-book-job.false

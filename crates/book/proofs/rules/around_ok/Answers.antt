@@ -9,4 +9,4 @@ returns-then-v-most c = simp (le-leb _ _ c.if-v-most.true)
 
 pub returns-else-v-most : goal.returns-else-v-most
 unfolding around_ok
-returns-else-v-most c = simp (lt-leb _ _ c.if-v-most.false, ← c.less.ensures)
+returns-else-v-most c = simp (lt-leb _ _ c.if-v-most.false, ← c.saturating_sub.ensures)

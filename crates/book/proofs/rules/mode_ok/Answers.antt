@@ -7,10 +7,10 @@ pub returns-then-mode-eq0 : goal.returns-then-mode-eq0
 unfolding mode_ok
 returns-then-mode-eq0 c = simp (eq-eqb _ _ c.if-mode-eq0.true)
 
-pub returns-then-rollback-eq-NEVER : goal.returns-then-rollback-eq-NEVER
+pub returns-then-rollback-ne-NEVER : goal.returns-then-rollback-ne-NEVER
 unfolding mode_ok
-returns-then-rollback-eq-NEVER c = simp (ne_eqb _ _ c.if-mode-eq0.false, eq-eqb _ _ c.if-rollback-eq-NEVER.true)
+returns-then-rollback-ne-NEVER c = simp (ne_eqb _ _ c.if-mode-eq0.false, ne_eqb _ _ c.if-rollback-ne-NEVER.true)
 
-pub returns-else-rollback-eq-NEVER : goal.returns-else-rollback-eq-NEVER
+pub returns-else-rollback-ne-NEVER : goal.returns-else-rollback-ne-NEVER
 unfolding mode_ok
-returns-else-rollback-eq-NEVER c = simp (ne_eqb _ _ c.if-mode-eq0.false, ne_eqb _ _ c.if-rollback-eq-NEVER.false)
+returns-else-rollback-ne-NEVER c = simp (ne_eqb _ _ c.if-mode-eq0.false, eq-eqb _ _ c.if-rollback-ne-NEVER.false)

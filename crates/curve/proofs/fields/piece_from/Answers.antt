@@ -1,25 +1,14 @@
 -- `curve::fields::piece_from` meets its contract.
 use native.Mathlib.Omega.{arith}
 use mir.Val.{SFits}
-use mir.Syntax.{w16, w32, w64}
+use mir.Syntax.{w16, w32}
 use mir.Facts.{to_z-of_z}
 use borrow.Author.Rules.{rules}
-use Rattle.curve.specs.Layout.{signed_of}
-use Rattle.curve.specs.Twos.{signed-fits}
+use Rattle.curve.proofs.Bytes.{signed_bits}
 use Rattle.curve.proofs.fields.piece_from.Goals as goal
-
-pub overflow_cast-result : goal.overflow_cast-result
-overflow_cast-result c =
-    let value-fits : SFits w32 (signed_of 4294967295 c.args.value) = signed-fits 4294967295 c.args.value (omega arith) (omega arith) in
-    rw (to_z-of_z {w = w64} {z = c.signed_of-v.result} (search rules), c.signed_of-v.ensures) value-fits
-
-pub overflow_cast-result-2 : goal.overflow_cast-result-2
-overflow_cast-result-2 c =
-    let slope-fits : SFits w16 (signed_of 65535 c.args.slope) = signed-fits 65535 c.args.slope (omega arith) (omega arith) in
-    rw (to_z-of_z {w = w64} {z = c.signed_of-m.result} (search rules), c.signed_of-m.ensures) slope-fits
 
 pub returns : goal.returns
 returns c =
-    let value-fits : SFits w32 (signed_of 4294967295 c.args.value) = signed-fits 4294967295 c.args.value (omega arith) (omega arith) in
-    let slope-fits : SFits w16 (signed_of 65535 c.args.slope) = signed-fits 65535 c.args.slope (omega arith) (omega arith) in
-    rw (to_z-of_z {w = w64} {z = c.signed_of-v.result} (search rules), to_z-of_z {w = w64} {z = c.signed_of-m.result} (search rules), c.signed_of-v.ensures, c.signed_of-m.ensures, to_z-of_z value-fits, to_z-of_z slope-fits)
+    let value : SFits w32 c.cast_signed.result = search rules in
+    let slope : SFits w16 c.cast_signed-2.result = search rules in
+    rw (to_z-of_z value, to_z-of_z slope, c.cast_signed.ensures, c.cast_signed-2.ensures, signed_bits w32 c.args.value (omega arith), signed_bits w16 c.args.slope (omega arith))

@@ -1,45 +1,42 @@
 -- `curve::question::worth_at` meets its contract.
-use mathlib.Core.Path.{◌≡◌, sym, ◌∙◌}
+use Prim.Native.Nat.{ℕ, ◌≤◌}
+use mathlib.Core.Bool.{true}
 use mathlib.Core.List.{List}
-use Prim.Native.Nat.{ℕ, ◌+◌, ◌*◌, ◌-◌, ◌<◌, ◌≤◌}
+use mathlib.Core.Path.{◌≡◌, sym, ◌∙◌}
 use native.Mathlib.Omega.{arith}
-use lib.ListN.{length}
+use lib.Dec.{ltb}
+use lib.ListN.{length, get_or}
+use Rattle.std.proofs.Common.{ltb-true, ltb-false}
+use Rattle.std.proofs.lemmas.List.{get_or_default}
 use Rattle.cursor.specs.Field.{value_at}
-use Rattle.curve.specs.Layout.{piece_place, curve_at, curve_end}
-use Rattle.curve.specs.Question.{stands-many, stands-cut, stands-until}
-use Rattle.curve.proofs.QuestionTheorems.{stands_after}
+use Rattle.curve.specs.Layout.{piece_place}
+use Rattle.curve.specs.Question.{stands-many, stands-cut, worth_from}
+use Rattle.curve.specs.Before.{worth_before}
+use Rattle.curve.proofs.Before.{before-anywhere}
 use Rattle.curve.proofs.question.worth_at.Goals as goal
 
--- where the tests were passed a curve stands there, its pieces' count being what was read; `end` is the place of its termination
-record Standing (s : List ℕ) (place count : ℕ) : Type 0 where
-  few : value_at s place 1 ≤ 8
-  whole : curve_end s place ≤ length s
-  end : place + 1 + 10 * count ≡ piece_place place (value_at s place 1)
+-- the byte that is there is the count
+count : (s : List ℕ) (place b n : ℕ) → true ≡ ltb place (length s) → b ≡ get_or s place b → n ≡ b → n ≡ value_at s place 1
+unfolding value_at
+count s place b n there is e = e ∙ is ∙ get_or_default s place b 0 (ltb-true _ _ (sym there))
 
-standing : (s : List ℕ) (place count : ℕ) → count ≡ value_at s place 1 → count ≤ 8 → place < length s → 10 * count + 5 ≤ length s - place → Standing s place count
-standing s place count e few in_book room = record { few = omega arith; whole = omega arith; end = omega arith }
-
--- and what is read at that place is its termination
-ended : {s : List ℕ} {place count t : ℕ} → Standing s place count → t ≡ value_at s (place + 1 + 10 * count) 4 → t ≡ (curve_at s place).end
-ended y e = rw y.end at e
-
-pub returns-then-s-place : goal.returns-then-s-place
-returns-then-s-place c = let a = c.args in sym (stands-cut a.s.now a.place a.t (omega arith))
-
-pub returns-then-count-gt8 : goal.returns-then-count-gt8
-returns-then-count-gt8 c = let a = c.args in sym (stands-many a.s.now a.place a.t (omega (arith, c.field_there-count.ensures.0)))
-
-pub returns-then-s-place-2 : goal.returns-then-s-place-2
-returns-then-s-place-2 c = let a = c.args in sym (stands-cut a.s.now a.place a.t (omega (arith, c.field_there-count.ensures.0)))
-
-pub returns-then-termination-t : goal.returns-then-termination-t
-returns-then-termination-t c =
+pub returns-in_err-get : goal.returns-in_err-get
+returns-in_err-get c =
     let a = c.args in
-    let y = standing a.s.now a.place c.field_there-count.result c.field_there-count.ensures.0 (omega arith) (omega arith) (omega arith) in
-    sym (stands_after a.s.now a.place y.few y.whole a.t (omega (arith, ended y c.field_there-termination.ensures.0)))
+    c.from_residual.ensures ∙ sym (stands-cut a.s.now a.place a.t (omega (arith, ltb-false a.place (length a.s.now) (sym c.in_err-get.ensures.lookup.0))))
+
+pub returns-then-pieces-gt8 : goal.returns-then-pieces-gt8
+returns-then-pieces-gt8 c =
+    let a = c.args in
+    let found = c.in_ok-get.ensures.lookup in
+    sym (stands-many a.s.now a.place a.t (omega (arith, count a.s.now a.place _ _ found.0 found.1 c.from-pieces.ensures)))
+
+-- the question of the curve's termination, by the place where it stands
+asked : (s : List ℕ) (place end n t : ℕ) → n ≡ value_at s place 1 → n ≤ 8 → end ≡ piece_place place n → worth_before s end n t ≡ worth_from s place t
+asked s place end n t read few stands = rw (stands, read) (before-anywhere s place t (omega (arith, read)))
 
 pub returns : goal.returns
 returns c =
     let a = c.args in
-    let y = standing a.s.now a.place c.field_there-count.result c.field_there-count.ensures.0 (omega arith) (omega arith) (omega arith) in
-    c.worth_in.ensures ∙ sym (stands-until a.s.now a.place y.few y.whole a.t (omega (arith, ended y c.field_there-termination.ensures.0)))
+    let found = c.in_ok-get.ensures.lookup in
+    c.worth_before.ensures ∙ asked a.s.now a.place _ _ a.t (count a.s.now a.place _ _ found.0 found.1 c.from-pieces.ensures) (omega arith) (omega arith)

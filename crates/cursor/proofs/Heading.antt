@@ -1,0 +1,74 @@
+-- The header's ends, from the fields that were read: the first refusal met, or all five.
+use Prim.Native.Nat.{ℕ, ◌-◌, ◌<◌, ◌≤◌}
+use native.Mathlib.Omega.{arith}
+use Rattle.std.specs.Prelude.{◌≡◌, refl, List, length, ltb, Result, Err, Ok, MatchResult}
+use borrow.Author.Tests.{lt-ltb, le-leb, lt-leb, ltb-true, ltb-false}
+use Rattle.cursor.specs.Reading.{Reading}
+use Rattle.cursor.specs.declared.FieldRead.{FieldRead}
+use Rattle.cursor.specs.declared.Refusal.{Refusal}
+use Rattle.cursor.specs.Refusal.{SIZE, VERSION, COUNT, RANGE}
+use Rattle.cursor.specs.declared.Header.{Header}
+use Rattle.cursor.specs.Outcome.{by-test}
+use Rattle.cursor.specs.Field.{value_at, refused_at, got_at, judged, read_at, field_of, rule_of}
+use Rattle.cursor.specs.Header.{header_of}
+use Rattle.cursor.specs.Answer.{got, Refused, header_answer, Headed}
+
+module _ (s : List ℕ) where
+  pub too_short : length s < 9 → Headed s (Err (record { number = SIZE; place = 0 }))
+  unfolding header_of header_answer rule_of field_of
+  too_short h = record { is = rw (lt-leb 9 (length s) h) refl; small = tt }
+
+  abbrev pub length_read : Reading
+  length_read = field_of s 2 (length s) (length s) SIZE (got_at 0 0 0)
+
+  abbrev pub version_read : Reading
+  version_read = field_of s 1 1 1 VERSION length_read
+
+  abbrev pub jobs_read : Reading
+  jobs_read = field_of s 1 0 32 COUNT version_read
+
+  abbrev pub resources_read : Reading
+  resources_read = field_of s 1 0 32 COUNT jobs_read
+
+  abbrev pub now_read : Reading
+  now_read = field_of s 4 0 2147483647 RANGE resources_read
+
+  module _ (enough : 9 ≤ length s) where
+    heads : header_of s ≡ record { reading = now_read; jobs = jobs_read.value; resources = resources_read.value; now = now_read.value }
+    unfolding header_of rule_of
+    heads = rw (le-leb 9 (length s) enough) refl
+
+    pub heading-refused : {d : Refusal} → Refused now_read d → Headed s (Err d)
+    unfolding header_answer
+    heading-refused {d} r = record { is = rw (heads, r.0, lt-ltb 0 d.number r.1) refl; small = tt }
+
+    pub headed : (jobs resources now : FieldRead) → (jobs_read ≡ got jobs) × (jobs.value ≤ 32) → resources_read ≡ got resources → (now_read ≡ got now) × (now.value ≤ 2147483647)
+        → Headed s (Ok (record { jobs = jobs.value; resources = resources.value; now = now.value; last = now }))
+    unfolding header_answer
+    headed jobs resources now j r n = record { is = rw (heads, n.0, r, j.0) refl; small = (j.1, n.1) }
+
+-- and back: what the answer means of the header's definition
+module _ (s : List ℕ) where
+  refusal-plain : (n low high number : ℕ) (r : Reading) → let e = field_of s n low high number r in 0 < e.number → e ≡ refused_at e.number e.place
+  unfolding field_of read_at judged
+  refusal-plain n low high number r =
+      let v = value_at s r.next n in
+      let P : Reading → Type 0 = λ e. 0 < e.number → e ≡ refused_at e.number e.place in
+      by-test (ltb 0 r.number) _ _ P (λ _ h. refl) (λ _.
+      by-test (ltb (length s) n) _ _ P (λ _ h. refl) (λ _.
+      by-test (ltb (length s - n) r.next) _ _ P (λ _ h. refl) (λ _.
+      by-test (ltb v low) _ _ P (λ _ h. refl) (λ _.
+      by-test (ltb high v) _ _ P (λ _ h. refl) (λ _ h. absurd (omega arith))))))
+
+  heading-plain : let e = (header_of s).reading in 0 < e.number → e ≡ refused_at e.number e.place
+  unfolding header_of
+  heading-plain h = refusal-plain 4 0 2147483647 RANGE _ h
+
+  pub header-means : MatchResult (header_answer (header_of s)) (λ h. header_of s ≡ record { reading = got h.last; jobs = h.jobs; resources = h.resources; now = h.now }) (Refused (header_of s).reading)
+  unfolding header_answer
+  header-means =
+      let h = header_of s in
+      by-test (ltb 0 h.reading.number) _ _ (λ (o : Result Header Refusal). MatchResult o (λ x. h ≡ record { reading = got x.last; jobs = x.jobs; resources = x.resources; now = x.now }) (Refused h.reading))
+      (λ e. let known = ltb-true 0 h.reading.number e in (heading-plain known, known))
+      (λ e. let z : h.reading.number ≡ 0 = omega (arith, ltb-false 0 h.reading.number e) in
+      λ i. record { reading = record { number = z i; place = h.reading.place; next = h.reading.next; value = h.reading.value }; jobs = h.jobs; resources = h.resources; now = h.now })
