@@ -1,7 +1,5 @@
 -- Time and utility along a row of parts, in either mode.
-use Rattle.std.specs.Prelude.{Bool, true, false, ◌&&◌, cond, ℕ, ◌+◌, eqb, pos, ◌+ℤ◌}
-use Rattle.curve.specs.declared.Worth.{Worth}
-use Rattle.curve.specs.declared.Worth.TheVariants.{Of}
+use Rattle.std.specs.Prelude.{Bool, true, false, ◌&&◌, cond, ℕ, ◌+◌, eqb, pos, ◌+ℤ◌, ℤ, Option, Some}
 use Rattle.curve.specs.Worth.{defined, amount}
 use Rattle.curve.specs.Density.{denser_than}
 use Rattle.gus.specs.declared.Course.{Course}
@@ -20,8 +18,8 @@ whole v b i = cond b (v.rollback i) (v.run i)
 -- WHAT A PART EARNS, in a group and in the choice of a mode alike: n of job i in the mode b, ended at a moment. "A normal run that is all its
 -- run time left earns its worth at that moment": a finish, in either mode, earns what it is worth in that mode, or none. A part that finishes
 -- nothing earns 0.
-unfoldable pub earned : View → ℕ → Bool → ℕ → ℕ → Worth
-earned v i b n moment = elim (eqb n (whole v b i)) [ true ↦ v.worth b i moment | false ↦ Of (pos 0) ]
+unfoldable pub earned : View → ℕ → Bool → ℕ → ℕ → Option ℤ
+earned v i b n moment = elim (eqb n (whole v b i)) [ true ↦ v.worth b i moment | false ↦ Some (pos 0) ]
 
 -- that part after a course that began at t; by none the course is no longer inside its curves, whatever comes after it
 unfoldable pub onward : View → ℕ → ℕ → Bool → ℕ → Course → Course

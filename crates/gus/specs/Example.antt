@@ -1,7 +1,6 @@
 -- Worked examples: cases 2, 4 and 5 to 12 of 01 (6 as R-3 of 02 has it), jobs that would finish outside their curves (R-7), a chain of three, a circle that job 0 is not on, and two circles of which one is settled, computed.
-use Rattle.std.specs.Prelude.{◌≡◌, refl, Bool, true, false, ◌&&◌, not, cond, List, [], ◌∷◌, ◌++◌, map, ℕ, suc, get_or, take, replicate, set, eqb, ltb, leb, pos, negsuc}
+use Rattle.std.specs.Prelude.{◌≡◌, refl, Bool, true, false, ◌&&◌, not, cond, List, [], ◌∷◌, ◌++◌, map, ℕ, suc, get_or, take, replicate, set, eqb, ltb, leb, pos, negsuc, None, Some}
 use Rattle.laws.specs.Count.{upto}
-use Rattle.curve.specs.declared.Worth.TheVariants.{None, Of}
 use Rattle.curve.specs.Density.{denser_than}
 use Rattle.job.specs.declared.Held.{Held}
 use Rattle.job.specs.declared.Request.{Request}
@@ -35,7 +34,7 @@ job run rollback request held = record { rolling = false; run = run; rollback = 
 -- flat curves of these worths, each from its start to its end; 0 for rollback at any time
 abbrev between : List ℕ → List ℕ → List ℕ → Pay
 between worths starts ends rolling i t =
-    cond rolling (Of (pos 0)) (cond (leb (get_or starts i 0) t && leb t (get_or ends i 1000)) (Of (pos (get_or worths i 0))) None)
+    cond rolling (Some (pos 0)) (cond (leb (get_or starts i 0) t && leb t (get_or ends i 1000)) (Some (pos (get_or worths i 0))) None)
 
 -- from 0 to 1,000
 abbrev flat : List ℕ → Pay
@@ -76,7 +75,7 @@ undone_late =
     ∷ []
 
 abbrev falling : Pay
-falling rolling i t = cond (eqb i 1 && not rolling) (cond (ltb t 11) (Of (negsuc 999)) (Of (pos 0))) (between (0 ∷ 0 ∷ 30 ∷ []) [] (1000 ∷ 1000 ∷ 13 ∷ []) rolling i t)
+falling rolling i t = cond (eqb i 1 && not rolling) (cond (ltb t 11) (Some (negsuc 999)) (Some (pos 0))) (between (0 ∷ 0 ∷ 30 ∷ []) [] (1000 ∷ 1000 ∷ 13 ∷ []) rolling i t)
 
 -- cases 5 to 7, by job 0's run time left and rollback time
 abbrev five : ℕ → ℕ → List Job

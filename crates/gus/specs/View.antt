@@ -1,6 +1,5 @@
 -- What a round asks of the jobs, each by its number, however they are laid out.
-use Rattle.std.specs.Prelude.{Bool, List, ℕ}
-use Rattle.curve.specs.declared.Worth.{Worth}
+use Rattle.std.specs.Prelude.{Bool, List, ℕ, ℤ, Option}
 use Rattle.job.specs.declared.Job.{Job}
 use Rattle.job.specs.Job.{hold_of, rollback_of, is_left}
 use Rattle.gus.specs.State.{job_at}
@@ -8,7 +7,7 @@ use Rattle.gus.specs.Waits.{waits_for}
 
 -- what finishing a job in a mode, true for rollback, at a moment is worth, or none
 abbrev pub Pay : Type 0
-Pay = Bool → ℕ → ℕ → Worth
+Pay = Bool → ℕ → ℕ → Option ℤ
 
 -- hold and undo: how long the job that this one waits for needs, running or rolling back, until it frees what this one requests
 pub record View : Type 0 where

@@ -1,11 +1,10 @@
 -- 01'S LOSS, WITH ITS LINE for a job in rollback: wherever a loss is asked for it is the loss without the line; so the line changes no victim and no knot.
-use Rattle.std.specs.Prelude.{ℕ, ◌+◌, ◌≡◌, Bool, List, eqb}
+use Rattle.std.specs.Prelude.{ℕ, ◌+◌, ◌≡◌, Bool, List, eqb, Some}
 use Rattle.std.proofs.Math.Path.{refl, ap}
 use Rattle.std.proofs.Common.{◌∙◌}
 use Rattle.std.proofs.Math.Bool.{true, false, cond}
 use Rattle.std.proofs.Math.IntN.{pos}
 use Rattle.laws.specs.Circle.{OnCircle}
-use Rattle.curve.specs.declared.Worth.TheVariants.{Of}
 use Rattle.curve.specs.Worth.{amount}
 use Rattle.job.specs.declared.Job.{Job}
 use Rattle.job.specs.Times.{never}
@@ -30,7 +29,7 @@ view_by_mode v = record {
   run = λ i. cond (v.rolling i) 1 (v.run i);
   rollback = v.rollback;
   rolling = v.rolling;
-  worth = λ b i t. cond (v.rolling i) (Of (pos 0)) (v.worth b i t);
+  worth = λ b i t. cond (v.rolling i) (Some (pos 0)) (v.worth b i t);
 }
 
 module _ (v : View) (t : ℕ) where
@@ -38,7 +37,7 @@ module _ (v : View) (t : ℕ) where
   unfolding loss_of loss_by_mode
   loss-by-mode i = go (v.rolling i)
     where
-      go : (b : Bool) → record { time = cond b 1 (v.run i); gain = amount (cond b (Of (pos 0)) (v.worth false i (t + cond b 1 (v.run i)))); inside = true } ≡ cond b (record { time = 1; gain = pos 0; inside = true }) (loss_of v t i)
+      go : (b : Bool) → record { time = cond b 1 (v.run i); gain = amount (cond b (Some (pos 0)) (v.worth false i (t + cond b 1 (v.run i)))); inside = true } ≡ cond b (record { time = 1; gain = pos 0; inside = true }) (loss_of v t i)
       go true = refl
       go false = refl
 

@@ -1,10 +1,8 @@
 -- A REPLAY: every part of a row is proper where it starts. What it keeps, and what it pays.
-use Rattle.std.specs.Prelude.{ℕ, ◌+◌, ◌≡◌, refl, Bool, true, false, ◌&&◌, cond, List, [], ◌∷◌, ◌++◌, eqb, ℤ, pos, ◌+ℤ◌}
+use Rattle.std.specs.Prelude.{ℕ, ◌+◌, ◌≡◌, refl, Bool, true, false, ◌&&◌, cond, List, [], ◌∷◌, ◌++◌, eqb, ℤ, pos, ◌+ℤ◌, Option, Some}
 use Rattle.std.proofs.Common.{arith, ap, ◌∙◌}
 use Rattle.std.proofs.lemmas.Bool.{false≢true}
 use Rattle.std.proofs.Math.IntN.{+ℤ_idl, +ℤ_assoc}
-use Rattle.curve.specs.declared.Worth.{Worth}
-use Rattle.curve.specs.declared.Worth.TheVariants.{Of}
 use Rattle.curve.specs.Worth.{defined, amount}
 use Rattle.job.specs.declared.Job.{Job}
 use Rattle.job.specs.Job.{left_in}
@@ -44,8 +42,8 @@ lasts-append (p ∷ ps) qs = omega (arith, lasts-append ps qs)
 
 -- WHAT A PART EARNS that ends at a moment: one after which its job has nothing left in the part's mode is a finish, and earns what that is worth
 -- at that moment, or none; any other earns 0
-unfoldable pub earns : Pay → List Job → Part → ℕ → Worth
-earns pay js p moment = cond (eqb (left_in p.rolling (worked_by js p)) 0) (pay p.rolling p.job moment) (Of (pos 0))
+unfoldable pub earns : Pay → List Job → Part → ℕ → Option ℤ
+earns pay js p moment = cond (eqb (left_in p.rolling (worked_by js p)) 0) (pay p.rolling p.job moment) (Some (pos 0))
 
 -- "What the machine pays": the sum over a row of parts that starts at the moment t
 unfoldable pub paid : Pay → List Job → ℕ → List Part → ℤ

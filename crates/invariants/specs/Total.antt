@@ -1,10 +1,9 @@
 -- The total is bounded: a job finishes once, so what is paid is at most the number of jobs left times the greatest worth.
-use Rattle.std.specs.Prelude.{ℕ, suc, ◌+◌, ◌*◌, ◌≤◌, ◌≡◌, Bool, true, false, cond, List, eqb, pos, nat_abs}
+use Rattle.std.specs.Prelude.{ℕ, suc, ◌+◌, ◌*◌, ◌≤◌, ◌≡◌, Bool, true, false, cond, List, eqb, pos, nat_abs, Some}
 use Rattle.std.proofs.Common.{suc-mul, inl, inr, eqb-true}
 use Rattle.std.proofs.Math.Nat.{mul-le-mul_right}
 use native.Mathlib.Omega.{arith}
 use Rattle.std.proofs.Math.Path.{refl}
-use Rattle.curve.specs.declared.Worth.TheVariants.{Of}
 use Rattle.curve.specs.Worth.{amount}
 use Rattle.job.specs.declared.Job.{Job}
 use Rattle.job.specs.Job.{left_in}
@@ -29,7 +28,7 @@ module _ (pay : Pay) (most : ℕ) (within : (b : Bool) (i moment : ℕ) → nat_
       less : count_left (after js p) * most ≤ count_left js * most
       less = mul-le-mul_right most (count-after s g)
 
-      go : (c : Bool) → eqb (left_in p.rolling (worked_by js p)) 0 ≡ c → nat_abs (amount (cond c (pay p.rolling p.job moment) (Of (pos 0)))) + count_left (after js p) * most ≤ count_left js * most
+      go : (c : Bool) → eqb (left_in p.rolling (worked_by js p)) 0 ≡ c → nat_abs (amount (cond c (pay p.rolling p.job moment) (Some (pos 0)))) + count_left (after js p) * most ≤ count_left js * most
       go true q =
           let x : suc (count_left (after js p)) * most ≤ count_left js * most = mul-le-mul_right most (count-ended s g (none_left p.rolling (worked_by js p) (eqb-true (left_in p.rolling (worked_by js p)) 0 q))) in
           omega (arith, within p.rolling p.job moment, rw suc-mul at x)

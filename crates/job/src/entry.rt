@@ -4,48 +4,44 @@ ghost use Rattle.job.specs.Held.{after_grant, after_run, after_rollback};
 
 use crate::{Held, times};
 
-// `never`: the job's rollback or the granted amount is never.
-pub(crate) fn after_grant(h: Held, never: bool, amount: u16) -> Held
-    ensures { result ≡ after_grant never amount h }
-{
-    if 0 < h.hold {
-        Held {
-            hold: h.hold,
-            rollback: times::or_never(never, times::plus(h.rollback, amount)),
-        }
-    } else {
-        h
-    }
-}
-
-pub(crate) fn after_run(h: Held, time: u16) -> Held
-    ensures { result ≡ after_run time h }
-{
-    if h.hold <= time {
-        Held {
-            hold: 0,
-            rollback: 0,
-        }
-    } else {
-        Held {
-            hold: times::less(h.hold, time),
-            rollback: h.rollback,
+impl Held {
+    // `never`: the job's rollback or the granted amount is never.
+    pub(crate) fn after_grant(self, never: bool, amount: u16) -> Held
+        ensures { result ≡ after_grant never amount self }
+    {
+        if 0 < self.hold {
+            Held {
+                rollback: times::or_never(never, self.rollback.saturating_add(amount)),
+                ..self
+            }
+        } else {
+            self
         }
     }
-}
 
-pub(crate) fn after_rollback(h: Held, time: u16) -> Held
-    ensures { result ≡ after_rollback time h }
-{
-    if h.rollback <= time {
-        Held {
-            hold: 0,
-            rollback: 0,
+    pub(crate) fn after_run(self, time: u16) -> Held
+        ensures { result ≡ after_run time self }
+    {
+        if self.hold <= time {
+            Held::FREE
+        } else {
+            Held {
+                hold: self.hold.saturating_sub(time),
+                ..self
+            }
         }
-    } else {
-        Held {
-            hold: h.hold,
-            rollback: times::less(h.rollback, time),
+    }
+
+    pub(crate) fn after_rollback(self, time: u16) -> Held
+        ensures { result ≡ after_rollback time self }
+    {
+        if self.rollback <= time {
+            Held::FREE
+        } else {
+            Held {
+                rollback: self.rollback.saturating_sub(time),
+                ..self
+            }
         }
     }
 }

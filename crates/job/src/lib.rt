@@ -2,10 +2,13 @@
 #![tactic(auto)]
 
 ghost use Rattle.std.specs.Prelude.{◌≡◌};
-ghost use Rattle.job.specs.Job.{no_request, granted, ran, rolled_back};
+ghost use Rattle.job.specs.Job.{granted, ran, rolled_back};
 
 mod entry;
 mod times;
+
+// Not held, no request and never are numbers and no `Option`: they are so in the book and in the definitions that the promises cite
+// (`free`, `no_request`, `never`).
 
 // What a job holds of one resource. It stands at the resource's number; hold 0: not held.
 #[derive(Clone, Copy)]
@@ -32,41 +35,43 @@ pub struct Job {
     pub held: [Held; 32],
 }
 
-fn no_request() -> Request
-    ensures { result ≡ no_request }
-{
-    Request {
+impl Held {
+    pub const FREE: Held = Held {
+        hold: 0,
+        rollback: 0,
+    };
+}
+
+impl Request {
+    pub const NONE: Request = Request {
         resource: 255,
         hold: 0,
         rollback: 0,
-    }
+    };
 }
 
 // Each method changes what is held in place, in one pass: an array that is handed over by value is copied.
+#[tactic(auto, using(crate::proofs::Pass::pass_more), unfolding(crate::specs::Job::granted, crate::specs::Job::ran, crate::specs::Job::rolled_back))]
 impl Job {
     // "A normal part first grants its job's request, if any."
     pub fn grant(mut self) -> Job
         ensures { result ≡ granted self }
     {
-        let resource = self.request.resource as usize;
+        let resource = usize::from(self.request.resource);
         if 32 <= resource {
             return self;
         }
         let amount = self.request.rollback;
         let never = times::either_never(self.rollback, amount);
-        let mut i: usize = 0;
-        while i < 32 {
-            let h = self.held[i];
-            self.held[i] = entry::after_grant(h, never, amount);
-            i += 1;
+        for h in &mut self.held {
+            *h = h.after_grant(never, amount);
         }
         self.held[resource] = Held {
             hold: self.request.hold,
             rollback: times::or_never(never, amount),
         };
-        self.rollback = times::or_never(never, times::plus(self.rollback, amount));
-        let none = no_request();
-        self.request = none;
+        self.rollback = times::or_never(never, self.rollback.saturating_add(amount));
+        self.request = Request::NONE;
         self
     }
 
@@ -74,13 +79,10 @@ impl Job {
     pub fn run_for(mut self, time: u16) -> Job
         ensures { result ≡ ran time self }
     {
-        let mut i: usize = 0;
-        while i < 32 {
-            let h = self.held[i];
-            self.held[i] = entry::after_run(h, time);
-            i += 1;
+        for h in &mut self.held {
+            *h = h.after_run(time);
         }
-        self.run = times::less(self.run, time);
+        self.run = self.run.saturating_sub(time);
         self
     }
 
@@ -88,16 +90,12 @@ impl Job {
     pub fn roll_back(mut self, time: u16) -> Job
         ensures { result ≡ rolled_back time self }
     {
-        let mut i: usize = 0;
-        while i < 32 {
-            let h = self.held[i];
-            self.held[i] = entry::after_rollback(h, time);
-            i += 1;
+        for h in &mut self.held {
+            *h = h.after_rollback(time);
         }
         self.rolling = true;
-        self.rollback = times::less(self.rollback, time);
-        let none = no_request();
-        self.request = none;
+        self.rollback = self.rollback.saturating_sub(time);
+        self.request = Request::NONE;
         self
     }
 }

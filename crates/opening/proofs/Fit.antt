@@ -3,7 +3,7 @@ use Rattle.std.specs.Prelude.{ℕ, ◌<◌, ◌≤◌, ◌≡◌}
 use Rattle.std.proofs.Common.{arith, inl, inr, eqb-true}
 use Rattle.job.specs.Job.{hold_of, rollback_of}
 use Rattle.job.specs.Fit.{Fit}
-use Rattle.book.specs.declared.Record.{Record}
+use Rattle.book.specs.Read.{Record}
 use Rattle.accepted.specs.Rules.{rollback_most, GoodRecord}
 use Rattle.opening.specs.Start.{job_from}
 use Rattle.opening.specs.Held.{entry_at, Apart, named-or-free, held-size}

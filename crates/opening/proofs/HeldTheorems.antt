@@ -6,7 +6,7 @@ use Rattle.std.proofs.Math.Path.{ap}
 use Rattle.job.specs.declared.Held.{Held}
 use Rattle.job.specs.Held.{free}
 use Rattle.job.specs.Job.{held_at, hold_of, rollback_of}
-use Rattle.book.specs.declared.Record.{Record}
+use Rattle.book.specs.Read.{Record}
 use Rattle.opening.specs.Start.{held_of_entry, job_from}
 use Rattle.opening.specs.Held.{Apart, Names, all_laid, entry_at, laid-entry, laid-free}
 

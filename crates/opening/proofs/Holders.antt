@@ -3,7 +3,7 @@ use Rattle.std.specs.Prelude.{ℕ, ◌<◌, ◌≡◌, length, get_or}
 use Rattle.std.proofs.Common.{arith, sym, ap, ◌∙◌, inl, inr}
 use Rattle.job.specs.Job.{hold_of}
 use Rattle.job.specs.Fit.{held_below}
-use Rattle.book.specs.declared.Book.{Book}
+use Rattle.book.specs.Read.{Book}
 use Rattle.laws.specs.Inside.{inside}
 use Rattle.accepted.specs.Good.{Good}
 use Rattle.gus.specs.State.{job_at}

@@ -1,7 +1,7 @@
 -- FROM AN ACCEPTED STRING OF BYTES to what the planner relies on.
 use Rattle.std.specs.Prelude.{ℕ, ◌≤◌, ◌≡◌, Bool, List, nat_abs, length, get_or}
 use Rattle.curve.specs.Worth.{amount}
-use Rattle.book.specs.declared.Book.{Book}
+use Rattle.book.specs.Read.{Book}
 use Rattle.book.specs.Format.{book_of}
 use Rattle.accepted.specs.Good.{Good}
 use Rattle.accepted.proofs.Good.{accepted-good}

@@ -2,7 +2,7 @@
 use Rattle.std.specs.Prelude.{◌≤◌, nat_abs}
 use Rattle.std.proofs.Common.{arith}
 use Rattle.laws.specs.Signed.{abs_is}
-use Rattle.book.specs.declared.Book.{Book}
+use Rattle.book.specs.Read.{Book}
 use Rattle.accepted.specs.Good.{Good}
 use Rattle.gus.specs.Choice.{by_density}
 use Rattle.gus.specs.Victims.{knot_of}

@@ -6,7 +6,7 @@ use Rattle.laws.specs.Search.{lt-or-le}
 use Rattle.job.specs.declared.Job.{Job}
 use Rattle.job.specs.Job.{hold_of}
 use Rattle.job.specs.Fit.{Fit}
-use Rattle.book.specs.declared.Book.{Book}
+use Rattle.book.specs.Read.{Book}
 use Rattle.accepted.specs.Good.{record_of, entry_of, Stands, Good}
 use Rattle.gus.specs.State.{job_at}
 use Rattle.invariants.specs.Vacant.{vacant-holds, vacant-fit}

@@ -3,7 +3,7 @@
 use Rattle.std.specs.Prelude.{ℕ, take}
 use mathlib.Core.List.{List}
 use Rattle.job.specs.declared.Job.{Job}
-use Rattle.book.specs.declared.Book.{Book}
+use Rattle.book.specs.Read.{Book}
 use Rattle.gus.specs.Victims.{victims_of, settled}
 use Rattle.opening.specs.Start.{jobs_from}
 use Rattle.opening.specs.Planned.{view_from}

@@ -3,7 +3,7 @@ use Rattle.std.specs.Prelude.{◌≤◌, List}
 use Rattle.std.proofs.Common.{arith, ap, inl}
 use Rattle.job.specs.declared.Job.{Job}
 use Rattle.job.specs.Part.{ended-not-left}
-use Rattle.book.specs.declared.Book.{Book}
+use Rattle.book.specs.Read.{Book}
 use Rattle.accepted.specs.Good.{Good}
 use Rattle.gus.specs.State.{job_at}
 use Rattle.invariants.specs.Left.{count_left, count-jobs}

@@ -5,7 +5,7 @@ use Rattle.job.specs.declared.Request.{Request}
 use Rattle.job.specs.Times.{in-range-below}
 use Rattle.job.specs.Job.{no_request}
 use Rattle.job.specs.Fit.{Ask}
-use Rattle.book.specs.declared.Record.{Record}
+use Rattle.book.specs.Read.{Record}
 use Rattle.accepted.specs.Rules.{RollbackTime, some, never, rollback_some, rollback_most, NoRequest, GoodRequest, nothing, asks, GoodRecord}
 use Rattle.opening.specs.Start.{job_from}
 

@@ -11,7 +11,7 @@ use Rattle.laws.specs.Search.{search-below}
 use Rattle.job.specs.declared.Held.{Held}
 use Rattle.job.specs.Held.{free}
 use Rattle.book.specs.declared.Entry.{Entry}
-use Rattle.book.specs.declared.Record.{Record}
+use Rattle.book.specs.Read.{Record}
 use Rattle.book.specs.Format.{no_entry}
 use Rattle.invariants.specs.Vacant.{vacant-free}
 use Rattle.opening.specs.Start.{held_of_entry, with_entry, held_from}

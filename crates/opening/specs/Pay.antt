@@ -1,11 +1,10 @@
 -- What a finish pays is at most a million, gained or lost.
-use Rattle.std.specs.Prelude.{ℕ, ◌≤◌, ◌≡◌, refl, Bool, true, false, ltb, nat_abs}
+use Rattle.std.specs.Prelude.{ℕ, ◌≤◌, ◌≡◌, refl, Bool, true, false, ltb, nat_abs, None}
 use Rattle.std.proofs.Common.{zero-le, inl, inr}
 use Rattle.laws.specs.Search.{lt-or-le}
 use Rattle.cursor.specs.Outcome.{by-test}
-use Rattle.curve.specs.declared.Worth.TheVariants.{None}
 use Rattle.curve.specs.Worth.{worth_in, worth_at, amount}
-use Rattle.book.specs.declared.Book.{Book}
+use Rattle.book.specs.Read.{Book}
 use Rattle.book.specs.Format.{empty_record}
 use Rattle.accepted.specs.Good.{Good, worth-small}
 use Rattle.opening.specs.Start.{pay_from}

@@ -2,7 +2,7 @@
 use Rattle.std.specs.Prelude.{◌+◌, ◌*◌, ◌≤◌, ◌≡◌, List, length}
 use Rattle.laws.specs.Signed.{up, dn}
 use Rattle.job.specs.declared.Job.{Job}
-use Rattle.book.specs.declared.Book.{Book}
+use Rattle.book.specs.Read.{Book}
 use Rattle.accepted.specs.Good.{Good}
 use Rattle.gus.specs.declared.Part.{Part}
 use Rattle.gus.specs.State.{after_all}

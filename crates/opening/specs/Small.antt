@@ -3,7 +3,7 @@ use Rattle.std.specs.Prelude.{ℕ, List}
 use Rattle.std.proofs.Common.{arith, ap, inl, inr}
 use Rattle.laws.specs.Search.{lt-or-le}
 use Rattle.job.specs.declared.Job.{Job}
-use Rattle.book.specs.declared.Book.{Book}
+use Rattle.book.specs.Read.{Book}
 use Rattle.accepted.specs.Good.{Good}
 use Rattle.gus.specs.declared.Part.{Part}
 use Rattle.gus.specs.State.{after_all}

@@ -3,7 +3,7 @@ use Rattle.std.specs.Prelude.{ℕ, ◌<◌, ◌≤◌, ◌≡◌, get_or}
 use Rattle.std.proofs.Common.{arith, sym, ap, ◌∙◌}
 use Rattle.std.proofs.Math.ListN.{get_or-map}
 use Rattle.job.specs.declared.Job.{Job}
-use Rattle.book.specs.declared.Book.{Book}
+use Rattle.book.specs.Read.{Book}
 use Rattle.book.specs.Format.{empty_record}
 use Rattle.accepted.specs.Good.{record_of, Good}
 use Rattle.gus.specs.State.{vacant, job_at}

@@ -1,14 +1,12 @@
 -- What the planner starts from: the jobs of a book, and what their finishes are worth.
-use Rattle.std.specs.Prelude.{◌≡◌, refl, true, false, List, map, ℕ, min, eqb, pos, get_or, set, replicate}
+use Rattle.std.specs.Prelude.{◌≡◌, refl, true, false, List, map, ℕ, min, eqb, pos, get_or, set, replicate, Some}
 use Rattle.laws.specs.Count.{upto}
-use Rattle.curve.specs.declared.Worth.TheVariants.{Of}
 use Rattle.curve.specs.Worth.{worth_at}
 use Rattle.job.specs.declared.Held.{Held}
 use Rattle.job.specs.declared.Job.{Job}
 use Rattle.job.specs.Held.{free}
 use Rattle.book.specs.declared.Entry.{Entry}
-use Rattle.book.specs.declared.Record.{Record}
-use Rattle.book.specs.declared.Book.{Book}
+use Rattle.book.specs.Read.{Record, Book}
 use Rattle.book.specs.Format.{no_entry, empty_record}
 use Rattle.gus.specs.State.{vacant}
 use Rattle.gus.specs.View.{Pay}
@@ -36,7 +34,7 @@ jobs_from b = map job_from b.records
 
 -- a normal finish is worth what its job's curve says; "Version 1 rollback still earns 0 at any time" (R-7)
 abbrev pub pay_from : Book → Pay
-pay_from b rolling i t = elim rolling [ true ↦ Of (pos 0) | false ↦ worth_at (get_or b.records i empty_record).curve t ]
+pay_from b rolling i t = elim rolling [ true ↦ Some (pos 0) | false ↦ worth_at (get_or b.records i empty_record).curve t ]
 
 -- a place without a record is a place without a job
 pub vacant-from : job_from empty_record ≡ vacant

@@ -8,8 +8,7 @@ use Rattle.laws.specs.Count.{upto, upto-each}
 use Rattle.laws.specs.Listed.{listed, listed_at}
 use Rattle.job.specs.declared.Job.{Job}
 use Rattle.job.specs.Held.{free}
-use Rattle.book.specs.declared.Record.{Record}
-use Rattle.book.specs.declared.Book.{Book}
+use Rattle.book.specs.Read.{Record, Book}
 use Rattle.book.specs.Format.{no_entry, book_of}
 use Rattle.accepted.specs.Layout.{entry_place, record_at, holds_at, held_at, curve_place, jobs_at, job_place}
 use Rattle.accepted.specs.Kept.{BookKept}

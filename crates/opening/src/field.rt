@@ -1,7 +1,8 @@
 // One field that is there, and one entry.
 ghost use Rattle.std.specs.Prelude.{◌≡◌, ◌+◌, ◌≤◌, ◌<◌, ◌^◌, length};
-ghost use Rattle.accepted.specs.Layout.{entry_at};
+ghost use Rattle.accepted.specs.Layout.{entry_at, held_at};
 ghost use Rattle.cursor.specs.Field.{value_at};
+ghost use Rattle.opening.specs.Taken.{head_in};
 
 use book::Entry;
 use cursor::field::value_at;
@@ -18,12 +19,18 @@ pub(crate) fn entry_there(s: &[u8], place: usize) -> Entry
     requires { place + 5 ≤ length s.now }
     ensures { result ≡ entry_at s.now place }
 {
-    let resource = field_there(s, place, 1);
-    let hold = field_there(s, place + 1, 2);
-    let rollback = field_there(s, place + 3, 2);
     Entry {
-        resource: resource as u8,
-        hold: hold as u16,
-        rollback: rollback as u16,
+        resource: field_there(s, place, 1) as u8,
+        hold: field_there(s, place + 1, 2) as u16,
+        rollback: field_there(s, place + 3, 2) as u16,
     }
+}
+
+// Entry k of the record at a place.
+#[tactic(auto, using(crate::proofs::Laid::listed_ends))]
+pub(crate) fn listed_there(s: &[u8], place: usize, k: usize) -> Entry
+    requires { k < (head_in s.now place).holds }
+    ensures { result ≡ held_at s.now place k }
+{
+    entry_there(s, place + 11 + 5 * k)
 }

@@ -1,6 +1,6 @@
 // A record's first eleven bytes: all but its held list and its curve (01, "The job book").
 ghost use Rattle.std.specs.Prelude.{◌≡◌, ◌+◌, ◌<◌, ◌≤◌, length};
-ghost use Rattle.opening.specs.Taken.{no_head, head_at, head_in};
+ghost use Rattle.opening.specs.Taken.{head_at, head_in};
 
 use crate::field::{entry_there, field_there};
 use job::Request;
@@ -14,59 +14,38 @@ pub struct Head {
     pub holds: usize,
 }
 
-fn no_head() -> Head
-    ensures { result ≡ no_head }
-{
-    let request = Request {
-        resource: 255,
-        hold: 0,
-        rollback: 0,
-    };
-    Head {
-        rolling: false,
-        run: 0,
-        rollback: 0,
-        request,
-        holds: 0,
-    }
-}
+const NO_HEAD: Head = Head {
+    rolling: false,
+    run: 0,
+    rollback: 0,
+    request: Request::NONE,
+    holds: 0,
+};
 
 fn head_there(s: &[u8], place: usize) -> Head
     requires { place + 11 ≤ length s.now }
     ensures { (result ≡ head_at s.now place) × (result.holds < 256) }
 {
-    let mode = field_there(s, place, 1);
-    let run = field_there(s, place + 1, 2);
-    let rollback = field_there(s, place + 3, 2);
-    let asked = entry_there(s, place + 5); // a request stands as an entry does
-    let holds = field_there(s, place + 10, 1);
-    let request = Request {
-        resource: asked.resource,
-        hold: asked.hold,
-        rollback: asked.rollback,
-    };
     Head {
-        rolling: mode == 1,
-        run: run as u16,
-        rollback: rollback as u16,
-        request,
-        holds,
+        rolling: field_there(s, place, 1) == 1,
+        run: field_there(s, place + 1, 2) as u16,
+        rollback: field_there(s, place + 3, 2) as u16,
+        request: entry_there(s, place + 5).into(),
+        holds: field_there(s, place + 10, 1),
     }
 }
 
 // Of any bytes, at any place; of a record whose held list is not all there nothing is taken. So no reader of an entry asks again.
+#[tactic(auto, unfolding(crate::specs::Taken::head_in))]
 pub fn head_at(s: &[u8], place: usize) -> Head
     ensures { result ≡ head_in s.now place }
 {
-    if s.len() < 11 {
-        return no_head();
-    }
-    if s.len() - 11 < place {
-        return no_head();
-    }
+    let Some((_, list)) = s.get(place..).and_then(|r| r.split_first_chunk::<11>()) else {
+        return NO_HEAD;
+    };
     let head = head_there(s, place);
-    if s.len() - 11 - place < 5 * head.holds {
-        return no_head();
+    if list.len() < 5 * head.holds {
+        return NO_HEAD;
     }
     head
 }

@@ -1,4 +1,5 @@
 // From the bytes of an accepted book to its jobs. That these are the jobs of the book's records, and what holds of them, is in specs/.
+// Bytes and a place stay two parameters: each call has another place, so a struct of the two would be made for one call.
 #![tactic(auto)]
 
 mod field; // field.rt: one field that is there, and one entry

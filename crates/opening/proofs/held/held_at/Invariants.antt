@@ -3,6 +3,3 @@ use Rattle.opening.proofs.held.held_at.Given as goal
 
 abbrev pub invariant-loop-k : goal.invariant-loop-k
 invariant-loop-k l = Sought l.s l.place l.resource l.k
-
-abbrev pub decreases-loop-k : goal.decreases-loop-k
-decreases-loop-k l = l.k
