@@ -5,7 +5,7 @@ use Rattle.std.proofs.Math.Path.{ap}
 use borrow.Author.Tests.{lt-ltb, le-ltb}
 use Rattle.laws.specs.Fill.{padded}
 use Rattle.job.specs.declared.Job.{Job}
-use Rattle.book.specs.declared.Book.{Book}
+use Rattle.book.specs.Read.{Book, JudgedBook}
 use Rattle.cursor.specs.Refusal.{KNOT}
 use Rattle.book.specs.Format.{book_of}
 use Rattle.gus.specs.declared.Part.{Part}
@@ -26,10 +26,9 @@ use Rattle.planner.specs.declared.State.{State}
 use Rattle.planner.specs.declared.Victims.{Victims}
 use Rattle.planner.specs.declared.GroupParts.{GroupParts}
 use Rattle.planner.specs.declared.PlanParts.{PlanParts}
-use Rattle.planner.specs.declared.Planned.{Planned}
-use Rattle.planner.specs.declared.FirstPart.{FirstPart}
+use Rattle.planner.specs.Plans.{Planned, FirstPart}
 use Rattle.book.specs.declared.Judged.{Judged}
-use Rattle.book.specs.Judged.{judged_of}
+use Rattle.book.specs.Judged.{judged_of, judged_book}
 use Rattle.accepted.proofs.Spans.{starts-at}
 use Rattle.opening.specs.Taken.{jobs_in}
 use Rattle.opening.proofs.TakenRight.{jobs-taken}
@@ -88,17 +87,14 @@ laid-first g = by g.parts
     by (p ∷ ps) = rw (lt-ltb 0 (length (p ∷ ps)) (omega arith))
 
 -- the reader's refusal
-module _ (s : List ℕ) {j : Judged} (e : j ≡ judged_of s) where
+module _ (s : List ℕ) {j : JudgedBook} (e : j ≡ judged_of s) where
   number_is : j.number ≡ (book_of s).number
   unfolding judged_of
-  number_is = ap (λ (x : Judged). x.number) e
+  number_is = ap (λ (x : JudgedBook). x.number) e
 
   place_is : j.place ≡ (book_of s).place
   unfolding judged_of
-  place_is = ap (λ (x : Judged). x.place) e
-
-  pub judged-accepted : j.number ≤ 0 → Accepted s j
-  judged-accepted h = record { judged = e; accepted = omega (arith, number_is) }
+  place_is = ap (λ (x : JudgedBook). x.place) e
 
   pub refused-plan : {r : Planned} → 0 < j.number → r ≡ refused_plan j.number j.place → r ≡ planned_of s
   unfolding planned_to
@@ -107,6 +103,9 @@ module _ (s : List ℕ) {j : Judged} (e : j ≡ judged_of s) where
   pub refused-first : {r : FirstPart} → 0 < j.number → r ≡ refused_first j.number j.place → r ≡ first_by by_density s
   unfolding first_by
   refused-first h q = rw (lt-ltb 0 (book_of s).number (omega (arith, number_is)), first_by) (q ∙ (λ k. refused_first (number_is k) (place_is k)))
+
+pub judged-accepted : (s : List ℕ) {j : Judged} → judged_book j ≡ judged_of s → Accepted s j
+judged-accepted s e = record { judged = e; accepted = sym (number_is s e) }
 
 pub first-is : (s : List ℕ) {r : FirstPart} → r ≡ first_by by_density s → r ≡ first_in (planned_of s)
 first-is s e = e ∙ sym (one-round by_density 31 s)

@@ -1,5 +1,5 @@
 -- A job against the best of those before it.
-use Rattle.std.specs.Prelude.{◌≡◌, Bool, ◌&&◌, ℕ, ◌+◌, ◌<◌, ◌≤◌, ◌+ℤ◌}
+use Rattle.std.specs.Prelude.{◌≡◌, Bool, ◌&&◌, ℕ, ◌+◌, ◌<◌, ◌≤◌, ◌+ℤ◌, ℤ, Option, Some}
 use Rattle.std.proofs.Math.Path.{refl, sym}
 use Rattle.std.proofs.Common.{ap, ◌∙◌}
 use Rattle.std.proofs.Math.Bool.{true, false}
@@ -7,8 +7,6 @@ use native.Mathlib.Omega.{arith}
 use borrow.Author.Tests.{eq-eqb}
 use Rattle.std.proofs.Math.IntN.{pos, +ℤ_idl}
 use Rattle.laws.specs.Count.{upto, upto-idle}
-use Rattle.curve.specs.declared.Worth.{Worth}
-use Rattle.curve.specs.declared.Worth.TheVariants.{Of}
 use Rattle.curve.specs.Worth.{defined, amount}
 use Rattle.gus.specs.declared.Course.{Course}
 use Rattle.gus.specs.declared.Best.{Best}
@@ -27,11 +25,11 @@ module _ (v : View) (t i : ℕ) where
   unfolding to_end
   end-in b e = sym (ap (λ (x : Bool). onward v t i x (whole v x i) start) e)
 
-  pub alone-back : v.rolling i ≡ true → ((m : ℕ) → v.worth true i m ≡ Of (pos 0)) → record { time = v.rollback i; gain = pos 0; inside = true } ≡ to_end v t i start
+  pub alone-back : v.rolling i ≡ true → ((m : ℕ) → v.worth true i m ≡ Some (pos 0)) → record { time = v.rollback i; gain = pos 0; inside = true } ≡ to_end v t i start
   unfolding onward earned
   alone-back e z =
       let n : v.rollback i ≡ 0 + v.rollback i = omega arith in
-      let all : Of (pos 0) ≡ earned v i true (v.rollback i) (t + (0 + v.rollback i)) = rw (earned, eq-eqb (v.rollback i) (v.rollback i) refl) (sym (z _)) in
+      let all : Some (pos 0) ≡ earned v i true (v.rollback i) (t + (0 + v.rollback i)) = rw (earned, eq-eqb (v.rollback i) (v.rollback i) refl) (sym (z _)) in
       (λ k. record { time = n k; gain = pos 0 +ℤ amount (all k); inside = defined (all k) && true }) ∙ end-in true e
 
   pub alone-run : {c : Course} → v.rolling i ≡ false → c ≡ onward v t i false (v.run i) start → c ≡ to_end v t i start
@@ -43,7 +41,7 @@ module _ (v : View) (t i : ℕ) where
       let n : 0 + v.run i ≡ v.run i = omega arith in
       let all : earned v i false (v.run i) (t + (0 + v.run i)) ≡ v.worth false i (t + v.run i) = rw (earned, eq-eqb (v.run i) (v.run i) refl, n) in
       (λ k. record { time = (q k).time; gain = (q k).gain; inside = true })
-      ∙ (λ k. record { time = n k; gain = (ap (λ (w : Worth). pos 0 +ℤ amount w) all ∙ +ℤ_idl (amount (v.worth false i (t + v.run i)))) k; inside = true })
+      ∙ (λ k. record { time = n k; gain = (ap (λ (w : Option ℤ). pos 0 +ℤ amount w) all ∙ +ℤ_idl (amount (v.worth false i (t + v.run i)))) k; inside = true })
 
 -- a group is weighed where it is a candidate, and passed over where it is not
 module _ (i : ℕ) (c : Course) (b : Best) where

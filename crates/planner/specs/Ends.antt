@@ -12,7 +12,7 @@ use Rattle.gus.specs.Victims.{knot_of}
 use Rattle.gus.specs.Plan.{answer_to}
 use Rattle.opening.specs.Start.{jobs_from, pay_from}
 use Rattle.opening.specs.Planned.{view_from}
-use Rattle.planner.specs.declared.Planned.{Planned}
+use Rattle.planner.specs.Plans.{Planned}
 use Rattle.planner.specs.Planned.{laid_plan, refused_plan, answered_to, planned_to}
 
 -- the lowest job on a circle that nobody can leave, or nobody

@@ -11,8 +11,7 @@ use Rattle.gus.specs.Choice.{Way, by_density}
 use Rattle.gus.specs.Victims.{victims_of, knot_of, settled}
 use Rattle.gus.specs.Plan.{Answer, answer_to}
 use Rattle.opening.specs.Start.{jobs_from, pay_from}
-use Rattle.planner.specs.declared.Planned.{Planned}
-use Rattle.planner.specs.declared.FirstPart.{FirstPart}
+use Rattle.planner.specs.Plans.{Planned, FirstPart}
 use Rattle.planner.specs.LaidOut.{empty_part}
 use Rattle.planner.specs.Round.{round_of, rounds-begin}
 use Rattle.planner.specs.Planned.{laid_plan, refused_plan, planned_to, planned_of}

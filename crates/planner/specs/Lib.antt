@@ -1,4 +1,6 @@
 pub mod Sheet
+pub mod Seen
+pub mod Columns
 pub mod Places
 pub mod Standing
 pub mod Bounds
@@ -48,9 +50,11 @@ pub mod Fitting
 pub mod Joining
 pub mod Staged
 pub mod Working
+pub mod Plans
 pub mod Planned
 pub mod Ends
 pub mod First
+pub mod Told
 pub mod Answering
 pub mod KeptRounds
 pub mod Unchanged

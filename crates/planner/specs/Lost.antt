@@ -1,10 +1,8 @@
 -- None among the credits of a course: it stays there, it does not hang on the gain, and by it the choice between two courses is decided.
-use Rattle.std.specs.Prelude.{◌≡◌, Bool, ◌&&◌, ℕ, ◌+◌, ℤ, pos}
+use Rattle.std.specs.Prelude.{◌≡◌, Bool, ◌&&◌, ℕ, ◌+◌, ℤ, pos, Option, None}
 use Rattle.std.proofs.Math.Path.{refl, sym, ap}
 use Rattle.std.proofs.Math.Bool.{true, false}
 use mathlib.Core.List.{List, [], ◌∷◌}
-use Rattle.curve.specs.declared.Worth.{Worth}
-use Rattle.curve.specs.declared.Worth.TheVariants.{None}
 use Rattle.curve.specs.Worth.{defined}
 use Rattle.gus.specs.declared.Course.{Course}
 use Rattle.gus.specs.View.{View}
@@ -33,7 +31,7 @@ module _ (v : View) (t : ℕ) where
   -- by a part that earns none a course is lost
   pub lost-by : (i : ℕ) (b : Bool) (n : ℕ) (c : Course) → None ≡ earned v i b n (t + (c.time + n)) → (onward v t i b n c).inside ≡ false
   unfolding onward
-  lost-by i b n c e = ap (λ (w : Worth). defined w && c.inside) (sym e)
+  lost-by i b n c e = ap (λ (w : Option ℤ). defined w && c.inside) (sym e)
 
   -- two courses of one time and one inside go on alike, whatever they have gained
   pub record Alike (c d : Course) : Type 0 where

@@ -1,16 +1,14 @@
 -- Where the curves of 32 jobs stand in the book's bytes, and that they are worth there what their records say.
-use Rattle.std.specs.Prelude.{◌≡◌, false, cond, List, ℕ, ◌<◌, ◌≤◌, ltb, length}
+use Rattle.std.specs.Prelude.{◌≡◌, false, cond, List, ℕ, ◌<◌, ◌≤◌, ltb, length, None}
 use Rattle.std.proofs.Common.{sym, ap, ◌∙◌, inl, inr, arith, lt-ltb, le-ltb}
 use Rattle.std.proofs.Math.ListN.{get_or-eq_default}
 use Rattle.laws.specs.Search.{lt-or-le}
 use Rattle.cursor.specs.Field.{value_at}
-use Rattle.curve.specs.declared.Worth.TheVariants.{None}
 use Rattle.curve.specs.Worth.{worth_at}
 use Rattle.curve.specs.Layout.{piece_place}
 use Rattle.curve.specs.Before.{worth_before, before-none}
 use Rattle.curve.proofs.Before.{before-is}
-use Rattle.book.specs.declared.Record.{Record}
-use Rattle.book.specs.declared.Book.{Book}
+use Rattle.book.specs.Read.{Record, Book}
 use Rattle.book.specs.Format.{empty_record, book_of}
 use Rattle.book.specs.Size.{records_size, jobs-accepted}
 use Rattle.accepted.specs.CurvePlaces.{curve_place_of}

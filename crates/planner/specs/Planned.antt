@@ -9,7 +9,7 @@ use Rattle.gus.specs.Victims.{knot_of}
 use Rattle.gus.specs.Choice.{Way, by_density}
 use Rattle.gus.specs.Plan.{Answer, answer_to}
 use Rattle.opening.specs.Start.{jobs_from, pay_from}
-use Rattle.planner.specs.declared.Planned.{Planned}
+use Rattle.planner.specs.Plans.{Planned}
 use Rattle.planner.specs.LaidOut.{empty_part}
 
 unfoldable pub laid_plan : Answer → Planned

@@ -1,12 +1,14 @@
 -- From an accepted book to the sheet of the first round: the jobs as the book has them, and then the victims in rollback.
-use Rattle.std.specs.Prelude.{◌≡◌, refl, List, ℕ, ◌≤◌}
+use Rattle.std.specs.Prelude.{◌≡◌, refl, List, ℕ, ◌<◌, ◌≤◌, Result, MatchResult}
 use Rattle.std.proofs.Math.Path.{ap}
 use Rattle.std.proofs.Common.{◌∙◌, arith}
 use Rattle.job.specs.declared.Job.{Job}
-use Rattle.book.specs.declared.Book.{Book}
+use Rattle.book.specs.Read.{Book, JudgedBook}
 use Rattle.book.specs.Format.{book_of}
 use Rattle.accepted.proofs.Good.{accepted-good}
-use Rattle.gus.specs.Victims.{victims_of, settled}
+use Rattle.gus.specs.Victims.{victims_of, knot_of, settled}
+use Rattle.cursor.specs.Refusal.{KNOT}
+use Rattle.cursor.specs.declared.Refusal.{Refusal}
 use Rattle.invariants.specs.Sound.{Sound}
 use Rattle.invariants.specs.End.{Small}
 use Rattle.opening.specs.Start.{jobs_from}
@@ -43,6 +45,12 @@ pub record Prepared (s sheet : List ℕ) (v : Victims) : Type 0 where
   pub victims : v ≡ listed (view_from (book_of s)) (book_of s).now
   pub sheet_is : 32 ≤ v.knot → sheet ≡ (first_state s).sheet
 
+-- that, or KNOT at the lowest job of a circle that has none
+abbrev pub PreparedFor : List ℕ → List ℕ → Result Victims Refusal → Type 0
+PreparedFor s sheet o =
+    let knot = knot_of (view_from (book_of s)) (book_of s).now in
+    MatchResult o (λ v. Prepared s sheet v × (32 ≤ v.knot)) (λ d. (d ≡ record { number = KNOT; place = knot }) × (knot < 32))
+
 -- from the book's count on there is no job
 pub idle-from : (s : List ℕ) → (book_of s).number ≡ 0 → Idle (book_of s).jobs (jobs_from (book_of s))
 idle-from s a =
@@ -63,14 +71,14 @@ module _ (s : List ℕ) {j : Judged} (a : Accepted s j) where
   unfolding judged_of
   standing = record {
     accepted = a.accepted;
-    starts_are = ap (λ (x : Judged). x.starts) a.judged;
-    holders_are = ap (λ (x : Judged). x.holders) a.judged;
-    jobs_are = ap (λ (x : Judged). x.jobs) a.judged;
+    starts_are = ap (λ (x : JudgedBook). x.starts) a.judged;
+    holders_are = ap (λ (x : JudgedBook). x.holders) a.judged;
+    jobs_are = ap (λ (x : JudgedBook). x.jobs) a.judged;
   }
 
   pub now-is : j.now ≡ b.now
   unfolding judged_of
-  now-is = ap (λ (x : Judged). x.now) a.judged
+  now-is = ap (λ (x : JudgedBook). x.now) a.judged
 
   pub jobs_are : j.jobs ≡ b.jobs
   jobs_are = standing.jobs_are

@@ -1,12 +1,11 @@
 -- The loop that reckons a chain to its end: its invariant, begun, carried on and ended.
-use Rattle.std.specs.Prelude.{◌≡◌, Bool, cond, List, ℕ, ◌+◌, ◌*◌, ◌<◌, ◌≤◌, ℤ, pos, nat_abs, ◌+ℤ◌, get_or}
+use Rattle.std.specs.Prelude.{◌≡◌, Bool, cond, List, ℕ, ◌+◌, ◌*◌, ◌<◌, ◌≤◌, ℤ, pos, nat_abs, ◌+ℤ◌, get_or, None, Some}
 use Rattle.std.proofs.Math.Path.{refl, ap}
 use Rattle.std.proofs.Common.{sym, subst, ◌∙◌, arith}
 use Rattle.std.proofs.Math.Bool.{true, false}
 use borrow.Author.Tests.{ltb-true, ltb-false}
 use Rattle.std.proofs.Math.Dec.{ltb}
 use Rattle.std.proofs.Math.IntN.{+ℤ_idr}
-use Rattle.curve.specs.declared.Worth.TheVariants.{None, Of}
 use Rattle.gus.specs.declared.Course.{Course}
 use Rattle.gus.specs.View.{View}
 use Rattle.gus.specs.Course.{span, whole, earned, onward, to_free, to_end, denser}
@@ -53,7 +52,7 @@ module _ (v : View) (t : ℕ) (members : List ℕ) where
         }
 
         -- what it earns can be added
-        pub reckoning-small : (z : ℤ) → Of z ≡ earned v i (v.rolling i) n (t + (time + n)) → (nat_abs gain ≤ 31 * 1000000) × (nat_abs z ≤ 1000000)
+        pub reckoning-small : (z : ℤ) → Some z ≡ earned v i (v.rolling i) n (t + (time + n)) → (nat_abs gain ≤ 31 * 1000000) × (nat_abs z ≤ 1000000)
         reckoning-small z e = (omega (arith, r.small.gain), credit-small v s.modest i (v.rolling i) n (t + (time + n)) z e)
 
         pub reckoning-lasting : Lasting v t members k (time + n)
@@ -62,7 +61,7 @@ module _ (v : View) (t : ℕ) (members : List ℕ) where
         turn : reckon v t (chain_in members (k + 1)) (onward v t i (v.rolling i) n (credited time gain)) ≡ reckon v t (chain_in members from) c₀
         turn = rw q (sym (reckon-turn k i (credited time gain) h p) ∙ r.same)
 
-        pub reckoning-next : (z sum : ℤ) → Of z ≡ earned v i (v.rolling i) n (t + (time + n)) → sum ≡ gain +ℤ z → Reckoning v t members from c₀ (credited (time + n) sum) (k + 1)
+        pub reckoning-next : (z sum : ℤ) → Some z ≡ earned v i (v.rolling i) n (t + (time + n)) → sum ≡ gain +ℤ z → Reckoning v t members from c₀ (credited (time + n) sum) (k + 1)
         reckoning-next z sum e f =
             let step : onward v t i (v.rolling i) n (credited time gain) ≡ credited (time + n) sum = sym (onward-some v t i (v.rolling i) n (credited time gain) z sum e f) in
             subst (λ (c : Course). Reckoning v t members from c₀ c (k + 1)) step (record {
@@ -93,7 +92,7 @@ module _ (v : View) (t : ℕ) (members : List ℕ) where
       so_far : credited c.time c.gain ≡ c
       so_far = λ d. record { time = c.time; gain = c.gain; inside = sym inside d }
 
-      pub undone-first : ((i m : ℕ) → v.worth true i m ≡ Of (pos 0)) → (x n : ℕ) → x ≡ get_or members (k + 1) 0 → n ≡ v.undo x → credited (c.time + n) c.gain ≡ course true
+      pub undone-first : ((i m : ℕ) → v.worth true i m ≡ Some (pos 0)) → (x n : ℕ) → x ≡ get_or members (k + 1) 0 → n ≡ v.undo x → credited (c.time + n) c.gain ≡ course true
       unfolding to_free
       undone-first z x n q e = rw (e, q)
           (onward-some v t (get_or members k 0) true (v.undo (get_or members (k + 1) 0)) (credited c.time c.gain) (pos 0) c.gain (earned-back v z (get_or members k 0) (v.undo (get_or members (k + 1) 0)) _) (sym (+ℤ_idr c.gain))
@@ -104,7 +103,7 @@ module _ (v : View) (t : ℕ) (members : List ℕ) where
         unfolding to_free
         ran = rw (e, p, q) (ap (onward v t (get_or members k 0) false (v.hold (get_or members (k + 1) 0))) so_far)
 
-        pub run-first : (z gain : ℤ) → Of z ≡ earned v i false n (t + (c.time + n)) → gain ≡ c.gain +ℤ z → credited (c.time + n) gain ≡ course false
+        pub run-first : (z gain : ℤ) → Some z ≡ earned v i false n (t + (c.time + n)) → gain ≡ c.gain +ℤ z → credited (c.time + n) gain ≡ course false
         run-first z gain w g = onward-some v t i false n (credited c.time c.gain) z gain w g ∙ ran
 
         pub run-lost : None ≡ earned v i false n (t + (c.time + n)) → (reckon v t (chain_in members (k + 1)) (course false)).inside ≡ false

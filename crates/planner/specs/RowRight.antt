@@ -13,7 +13,7 @@ use Rattle.cursor.specs.Value.{value_there}
 use Rattle.job.specs.declared.Held.{Held}
 use Rattle.job.specs.declared.Job.{Job}
 use Rattle.job.specs.Job.{no_job, held_at}
-use Rattle.book.specs.declared.Book.{Book}
+use Rattle.book.specs.Read.{Book}
 use Rattle.book.specs.Format.{book_of}
 use Rattle.book.specs.Starts.{start_is}
 use Rattle.accepted.specs.Layout.{job_place}

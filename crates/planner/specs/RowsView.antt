@@ -1,9 +1,8 @@
 -- THE BRIDGE: where the sheet is the rows of the jobs, it gives the view of the jobs.
-use Rattle.std.specs.Prelude.{◌≡◌, Bool, true, false, ◌&&◌, List, ℕ, ◌+◌, ◌*◌, ◌<◌, ◌≤◌, ltb, eqb, pos}
+use Rattle.std.specs.Prelude.{◌≡◌, Bool, true, false, ◌&&◌, List, ℕ, ◌+◌, ◌*◌, ◌<◌, ◌≤◌, ltb, eqb, pos, None, Some}
 use Rattle.std.proofs.Common.{sym, ap, ◌∙◌, inl, inr, arith, lt-ltb, le-ltb}
 use Rattle.std.proofs.Math.ListN.{get_or-eq_default}
 use Rattle.laws.specs.Search.{lt-or-le}
-use Rattle.curve.specs.declared.Worth.TheVariants.{None, Of}
 use Rattle.curve.specs.Before.{worth_before}
 use Rattle.job.specs.declared.Held.{Held}
 use Rattle.job.specs.declared.Job.{Job}
@@ -48,7 +47,7 @@ module _ {js : List Job} (s : Sound js) where
     pub record Paying : Type 0 where
       pub curves : (i t : ℕ) → i < 32 → worth_before bytes (places i).end (places i).pieces t ≡ pay false i t
       pub none : (i t : ℕ) → 32 ≤ i → pay false i t ≡ None
-      pub back : (i t : ℕ) → pay true i t ≡ Of (pos 0)
+      pub back : (i t : ℕ) → pay true i t ≡ Some (pos 0)
 
     pub rows-view : Paying → seen bytes sheet ≡ view_of pay js
     rows-view pays = λ d. record {

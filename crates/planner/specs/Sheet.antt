@@ -1,7 +1,5 @@
 -- THE SHEET: what a round asks of the jobs, in one array with a row of nine numbers for each job.
-use Rattle.std.specs.Prelude.{Bool, true, false, ◌&&◌, cond, List, ℕ, ◌+◌, ◌*◌, ltb, eqb, pos, get_or}
-use Rattle.curve.specs.declared.Worth.{Worth}
-use Rattle.curve.specs.declared.Worth.TheVariants.{None, Of}
+use Rattle.std.specs.Prelude.{Bool, true, false, ◌&&◌, cond, List, ℕ, ◌+◌, ◌*◌, ltb, eqb, pos, get_or, ℤ, Option, None, Some}
 use Rattle.curve.specs.Before.{worth_before}
 use Rattle.gus.specs.Waits.{nobody}
 use Rattle.gus.specs.View.{Pay, View}
@@ -44,12 +42,12 @@ abbrev pub asks_in : List ℕ → ℕ → ℕ
 asks_in sheet = cell 8 sheet nobody
 
 -- what a normal finish of a job is worth, by its curve in the lent bytes; past the last row nobody finishes
-abbrev pub worth_seen : List ℕ → List ℕ → ℕ → ℕ → Worth
+abbrev pub worth_seen : List ℕ → List ℕ → ℕ → ℕ → Option ℤ
 worth_seen bytes sheet i t = cond (ltb i 32) (worth_before bytes (end_in sheet i) (pieces_in sheet i) t) None
 
 -- by mode: rollback is worth 0 at any time
 abbrev pub paid : List ℕ → List ℕ → Pay
-paid bytes sheet rolling i t = elim rolling [ true ↦ Of (pos 0) | false ↦ worth_seen bytes sheet i t ]
+paid bytes sheet rolling i t = elim rolling [ true ↦ Some (pos 0) | false ↦ worth_seen bytes sheet i t ]
 
 -- THE VIEW of the jobs that the lent book and sheet give
 abbrev pub seen : List ℕ → List ℕ → View

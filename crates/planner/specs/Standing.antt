@@ -1,12 +1,12 @@
 -- An accepted book as the judge hands it over.
 use Rattle.std.specs.Prelude.{◌≡◌, List, ℕ, replicate}
 use Rattle.book.specs.Format.{book_of}
-use Rattle.book.specs.Judged.{starts_of, judged_of}
+use Rattle.book.specs.Judged.{starts_of, judged_of, judged_book}
 use Rattle.book.specs.declared.Judged.{Judged}
 
 -- whole, and by the parts that are lent
 pub record Accepted (s : List ℕ) (j : Judged) : Type 0 where
-  pub judged : j ≡ judged_of s
+  pub judged : judged_book j ≡ judged_of s
   pub accepted : (book_of s).number ≡ 0
 
 pub record Standing (s starts holders : List ℕ) (n : ℕ) : Type 0 where

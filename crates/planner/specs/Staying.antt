@@ -1,7 +1,6 @@
 -- The loop that asks whether a course stays inside its curves to the end of a chain: its invariant, begun, carried on and ended.
-use Rattle.std.specs.Prelude.{◌≡◌, refl, true, false, List, ℕ, ◌+◌, ◌*◌, ◌<◌, ◌≤◌, ℤ, pos, ◌+ℤ◌, get_or}
+use Rattle.std.specs.Prelude.{◌≡◌, refl, true, false, List, ℕ, ◌+◌, ◌*◌, ◌<◌, ◌≤◌, ℤ, pos, ◌+ℤ◌, get_or, None, Some}
 use Rattle.std.proofs.Common.{sym, ap, ◌∙◌, arith}
-use Rattle.curve.specs.declared.Worth.TheVariants.{None, Of}
 use Rattle.gus.specs.declared.Course.{Course}
 use Rattle.gus.specs.View.{View}
 use Rattle.gus.specs.Course.{earned, onward}
@@ -37,7 +36,7 @@ module _ (v : View) (t : ℕ) (members : List ℕ) where
       unfolding inside_after
       turn = rw q (sym (ap (λ (c : Course). c.inside) (reckon-turn v t members k i (credited time (pos 0)) h p)) ∙ r.same)
 
-      pub staying-next : (z : ℤ) → Of z ≡ earned v i (v.rolling i) n (t + (time + n)) → Staying from before (time + n) (k + 1)
+      pub staying-next : (z : ℤ) → Some z ≡ earned v i (v.rolling i) n (t + (time + n)) → Staying from before (time + n) (k + 1)
       staying-next z e = record {
         within = omega arith;
         small = omega (arith, span-short v (short s.modest) members k (v.rolling i), r.small);

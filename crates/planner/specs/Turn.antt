@@ -1,5 +1,5 @@
 -- The part of a member of a chain, however it is reckoned: how long it takes, and how far it goes.
-use Rattle.std.specs.Prelude.{◌≡◌, Bool, ◌&&◌, cond, List, ℕ, suc, ◌+◌, ◌≤◌, eqb, ltb, ℤ, pos, ◌+ℤ◌, get_or}
+use Rattle.std.specs.Prelude.{◌≡◌, Bool, ◌&&◌, cond, List, ℕ, suc, ◌+◌, ◌≤◌, eqb, ltb, ℤ, pos, ◌+ℤ◌, get_or, Option, None, Some}
 use Rattle.std.proofs.Math.Path.{refl, sym}
 use Rattle.std.proofs.Common.{subst, ◌∙◌}
 use Rattle.std.proofs.Math.Bool.{true, false}
@@ -7,8 +7,6 @@ use native.Mathlib.Omega.{arith}
 use borrow.Author.Tests.{eq-eqb, ne_eqb}
 use Rattle.std.proofs.Math.IntN.{nat_abs, +ℤ_idr}
 use Rattle.laws.proofs.Signed.{abs-add}
-use Rattle.curve.specs.declared.Worth.{Worth}
-use Rattle.curve.specs.declared.Worth.TheVariants.{None, Of}
 use Rattle.curve.specs.Worth.{defined, amount}
 use Rattle.gus.specs.declared.Course.{Course}
 use Rattle.gus.specs.declared.Part.{Part}
@@ -20,6 +18,12 @@ use Rattle.planner.specs.Bounds.{Modest, Short, short, Small}
 -- how long the member at place k of 32 takes in the mode b: until what the next one requests is free, and the last one to its end
 abbrev pub span_at : View → List ℕ → ℕ → Bool → ℕ
 span_at v members k b = cond (ltb k 31) (span v b (get_or members (k + 1) 0)) (whole v b (get_or members k 0))
+
+-- that member is job i, and in its own mode b it takes n
+pub record Own (v : View) (members : List ℕ) (k i : ℕ) (b : Bool) (n : ℕ) : Type 0 where
+  pub job : i ≡ get_or members k 0
+  pub mode : b ≡ v.rolling i
+  pub span : n ≡ span_at v members k b
 
 -- its part
 abbrev pub part_at : View → List ℕ → ℕ → Bool → Part
@@ -42,11 +46,11 @@ module _ (v : View) (s : Short v) where
 -- what a part earns, mode by mode
 module _ (v : View) where
   -- where rollback is worth 0 at any time, to roll back earns 0, all of it or not
-  pub earned-back : ((i m : ℕ) → v.worth true i m ≡ Of (pos 0)) → (i n moment : ℕ) → Of (pos 0) ≡ earned v i true n moment
+  pub earned-back : ((i m : ℕ) → v.worth true i m ≡ Some (pos 0)) → (i n moment : ℕ) → Some (pos 0) ≡ earned v i true n moment
   unfolding earned
   earned-back z i n moment = by (eqb n (v.rollback i))
     where
-      by : (all : Bool) → Of (pos 0) ≡ elim all as (λ _. Worth) [ true ↦ v.worth true i moment | false ↦ Of (pos 0) ]
+      by : (all : Bool) → Some (pos 0) ≡ elim all as (λ _. Option ℤ) [ true ↦ v.worth true i moment | false ↦ Some (pos 0) ]
       by true = sym (z i moment)
       by false = refl
 
@@ -55,7 +59,7 @@ module _ (v : View) where
   unfolding earned
   earned-all i n moment e = rw (earned, eq-eqb n (v.run i) e)
 
-  pub earned-less : (i n moment : ℕ) → (n ≡ v.run i → ⊥) → Of (pos 0) ≡ earned v i false n moment
+  pub earned-less : (i n moment : ℕ) → (n ≡ v.run i → ⊥) → Some (pos 0) ≡ earned v i false n moment
   unfolding earned
   earned-less i n moment e = rw (earned, ne_eqb n (v.run i) e)
 
@@ -65,7 +69,7 @@ module _ (v : View) (t i : ℕ) (b : Bool) (n : ℕ) (c : Course) where
   unfolding onward
   onward-none e = (λ d. record { time = c.time + n; gain = sym (+ℤ_idr c.gain) d; inside = false }) ∙ (λ d. record { time = c.time + n; gain = c.gain +ℤ amount (e d); inside = defined (e d) && c.inside })
 
-  pub onward-some : (z sum : ℤ) → Of z ≡ earned v i b n (t + (c.time + n)) → sum ≡ c.gain +ℤ z → record { time = c.time + n; gain = sum; inside = c.inside } ≡ onward v t i b n c
+  pub onward-some : (z sum : ℤ) → Some z ≡ earned v i b n (t + (c.time + n)) → sum ≡ c.gain +ℤ z → record { time = c.time + n; gain = sum; inside = c.inside } ≡ onward v t i b n c
   unfolding onward
   onward-some z sum e f = (λ d. record { time = c.time + n; gain = f d; inside = c.inside }) ∙ (λ d. record { time = c.time + n; gain = c.gain +ℤ amount (e d); inside = defined (e d) && c.inside })
 
@@ -75,12 +79,12 @@ module _ (v : View) (m : Modest v) where
   unfolding earned
   earned-small i b n moment = by (eqb n (whole v b i))
     where
-      by : (all : Bool) → nat_abs (amount (elim all as (λ _. Worth) [ true ↦ v.worth b i moment | false ↦ Of (pos 0) ])) ≤ 1000000
+      by : (all : Bool) → nat_abs (amount (elim all as (λ _. Option ℤ) [ true ↦ v.worth b i moment | false ↦ Some (pos 0) ])) ≤ 1000000
       by true = m.worth b i moment
       by false = omega arith
 
-  pub credit-small : (i : ℕ) (b : Bool) (n moment : ℕ) (z : ℤ) → Of z ≡ earned v i b n moment → nat_abs z ≤ 1000000
-  credit-small i b n moment z e = subst (λ (w : Worth). nat_abs (amount w) ≤ 1000000) (sym e) (earned-small i b n moment)
+  pub credit-small : (i : ℕ) (b : Bool) (n moment : ℕ) (z : ℤ) → Some z ≡ earned v i b n moment → nat_abs z ≤ 1000000
+  credit-small i b n moment z e = subst (λ (w : Option ℤ). nat_abs (amount w) ≤ 1000000) (sym e) (earned-small i b n moment)
 
   module _ (t i : ℕ) where
     pub small-onward : (b : Bool) (n k : ℕ) (c : Course) → n ≤ 65535 → Small k c → Small (suc k) (onward v t i b n c)

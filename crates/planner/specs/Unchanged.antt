@@ -10,7 +10,7 @@ use Rattle.invariants.specs.Loss.{view_by_mode}
 use Rattle.opening.specs.Start.{jobs_from, pay_from}
 use Rattle.opening.specs.Planned.{view_from}
 use Rattle.opening.proofs.CircleModes.{victims-unchanged, knot-unchanged}
-use Rattle.planner.specs.declared.Planned.{Planned}
+use Rattle.planner.specs.Plans.{Planned}
 use Rattle.planner.specs.Planned.{laid_plan, refused_plan, answered_to, planned_to}
 
 -- `planned_to`, if the knot and the victims were these

@@ -25,15 +25,11 @@ fn holder_after(job: u8, h: Held, holder: u8) -> u8
     if holder == job { 255 } else { holder }
 }
 
-pub(crate) fn holders_after(mut holders: [u8; 32], job: u8, held: [Held; 32]) -> [u8; 32]
-    ensures { result ≡ holders_after job held holders }
+pub(crate) fn holders_after(mut holders: [u8; 32], job: u8, held: &[Held; 32]) -> [u8; 32]
+    ensures { result ≡ holders_after job held.now holders }
 {
-    let mut i: usize = 0;
-    while i < 32 {
-        let holder = holders[i];
-        let h = held[i];
-        holders[i] = holder_after(job, h, holder);
-        i += 1;
+    for (i, holder) in holders.iter_mut().enumerate() {
+        *holder = holder_after(job, held[i], *holder);
     }
     holders
 }

@@ -1,119 +1,97 @@
 // The choice of a mode (VI.5).
 ghost use Rattle.std.specs.Prelude.{◌≡◌, ◌+◌, get_or};
 ghost use Rattle.gus.specs.Choice.{by_density};
-ghost use Rattle.planner.specs.Sheet.{seen};
 ghost use Rattle.laws.specs.Placed.{chain_in};
-ghost use Rattle.planner.specs.Asking.{Along, Undoing, Lasting};
+ghost use Rattle.planner.specs.Seen.{seen_by};
+ghost use Rattle.planner.specs.Asking.{Along, Undoing, Lasting, Placing};
 ghost use Rattle.planner.specs.Lost.{inside_after};
+ghost use Rattle.planner.specs.Turn.{Own};
 ghost use Rattle.planner.specs.Choosing.{undone_wins, mode_at};
 
-use crate::course::{earn, plus, span_at};
-use crate::sheet::{NEVER, hold_for, rollback_of, rolls, undo_for};
-use crate::wide;
-use curve::Worth;
+use crate::chain::Chain;
+use crate::course::{Stint, plus};
+use crate::sheet::{Column, NEVER};
 use gus::Course;
 
-// Whether a course that has taken so much time with the member at place k goes on inside its curves, each later member in its own mode.
-fn stays_inside<'a>(
-    bytes: &'a [u8],
-    sheet: &'a [u32; 288],
-    members: &'a [u8; 32],
-    k: usize,
-    t: u32,
-    before: u32,
-) -> bool
-    requires { Lasting (seen bytes.now sheet.now) t members.now k before }
-    ensures { result ≡ inside_after (seen bytes.now sheet.now) t (chain_in members.now (k + 1)) before }
-{
-    let mut time = before;
-    let mut i = k + 1;
-    while i < 32 {
-        let member = wide(members[i]);
-        let back = rolls(sheet, member);
-        let n = span_at(sheet, members, i, back);
-        time += n;
-        let worth = earn(bytes, sheet, member, back, n, t, time);
-        let Worth::Of(_) = worth else {
-            return false;
-        };
-        i += 1;
+impl Chain<'_> {
+    // The stint of the member at place k in its own mode.
+    fn own_stint(&self, k: usize) -> Stint
+        requires { Placing self.now.members.now k }
+        ensures { Own (seen_by self.now.view.now) self.now.members.now k result.job result.back result.time }
+    {
+        let job = usize::from(self.members[k]);
+        let back = self.view.sheet.rolls(job);
+        let time = self.span_at(k, back);
+        Stint { job, back, time }
     }
-    true
-}
 
-// Whether the job at place k does better by rolling back than by running. Both courses go along the chain in one loop, as plain numbers: a course
-// as one value is packed and unpacked at each member. The loop goes on while neither has none among its credits. "a course with none among its
-// credits loses to one without, and if both have it normal wins" (02, R-7): so by none in the course of rolling back it is decided, and by none in
-// the normal one it is asked of the other alone.
-fn better_undone<'a>(
-    bytes: &'a [u8],
-    sheet: &'a [u32; 288],
-    members: &'a [u8; 32],
-    k: usize,
-    t: u32,
-    c: Course,
-) -> bool
-    requires { Undoing (seen bytes.now sheet.now) t members.now k c }
-    ensures { result ≡ undone_wins (seen bytes.now sheet.now) t (get_or members.now k 0) (get_or members.now (k + 1) 0) (chain_in members.now (k + 1)) c }
-{
-    let job = wide(members[k]);
-    let next = wide(members[k + 1]);
-    let hold = hold_for(sheet, next);
-    let mut undone_time = c.time + undo_for(sheet, next);
-    let mut undone_gain = c.gain;
-    let mut time = c.time + hold;
-    let first = earn(bytes, sheet, job, false, hold, t, time);
-    let Worth::Of(credit) = first else {
-        return stays_inside(bytes, sheet, members, k, t, undone_time);
-    };
-    let mut gain = plus(c.gain, credit);
-    let mut i = k + 1;
-    while i < 32 {
-        let member = wide(members[i]);
-        let back = rolls(sheet, member);
-        let n = span_at(sheet, members, i, back);
-        time += n;
-        undone_time += n;
-        let undone_worth = earn(bytes, sheet, member, back, n, t, undone_time);
-        let Worth::Of(undone_credit) = undone_worth else {
-            return false;
-        };
-        undone_gain = plus(undone_gain, undone_credit);
-        let worth = earn(bytes, sheet, member, back, n, t, time);
-        let Worth::Of(member_credit) = worth else {
-            return stays_inside(bytes, sheet, members, i, t, undone_time);
-        };
-        gain = plus(gain, member_credit);
-        i += 1;
+    // Whether a course that has taken so much time with the member at place k goes on inside its curves, each later member in its own mode.
+    fn stays_inside(&self, k: usize, before: u32) -> bool
+        requires { Lasting (seen_by self.now.view.now) self.now.view.now.moment self.now.members.now k before }
+        ensures { result ≡ inside_after (seen_by self.now.view.now) self.now.view.now.moment (chain_in self.now.members.now (k + 1)) before }
+    {
+        let mut time = before;
+        for i in k + 1..32 {
+            let stint = self.own_stint(i);
+            time += stint.time;
+            if self.view.earn(stint, time).is_none() {
+                return false;
+            }
+        }
+        true
     }
-    curve::denser(undone_gain, undone_time, gain, time)
-}
 
-// Whether the member at place k rolls back; the last one keeps its mode. Where the group so far has none among its credits both courses have, and
-// nothing is reckoned.
-pub(crate) fn rolls_back<'a>(
-    bytes: &'a [u8],
-    sheet: &'a [u32; 288],
-    members: &'a [u8; 32],
-    k: usize,
-    t: u32,
-    c: Course,
-) -> bool
-    requires { Along (seen bytes.now sheet.now) t members.now k c }
-    ensures { result ≡ mode_at by_density (seen bytes.now sheet.now) t members.now k c }
-{
-    let job = wide(members[k]);
-    if rolls(sheet, job) {
-        return true;
+    // Whether the job at place k does better by rolling back than by running. Both courses go along the chain in one loop, as plain numbers: a
+    // course as one value is packed and unpacked at each member. The loop goes on while neither has none among its credits. "a course with none
+    // among its credits loses to one without, and if both have it normal wins" (02, R-7): so by none in the course of rolling back it is decided,
+    // and by none in the normal one it is asked of the other alone.
+    fn better_undone(&self, k: usize, c: Course) -> bool
+        requires { Undoing (seen_by self.now.view.now) self.now.view.now.moment self.now.members.now k c }
+        ensures { result ≡ undone_wins (seen_by self.now.view.now) self.now.view.now.moment (get_or self.now.members.now k 0) (get_or self.now.members.now (k + 1) 0) (chain_in self.now.members.now (k + 1)) c }
+    {
+        let job = usize::from(self.members[k]);
+        let next = usize::from(self.members[k + 1]);
+        let run = Stint {
+            job,
+            back: false,
+            time: self.view.sheet.cell(next, Column::Hold),
+        };
+        let mut undone_time = c.time + self.view.sheet.cell(next, Column::Undo);
+        let mut undone_gain = c.gain;
+        let mut time = c.time + run.time;
+        let Some(credit) = self.view.earn(run, time) else {
+            return self.stays_inside(k, undone_time);
+        };
+        let mut gain = plus(c.gain, credit);
+        for i in k + 1..32 {
+            let stint = self.own_stint(i);
+            time += stint.time;
+            undone_time += stint.time;
+            let Some(undone_credit) = self.view.earn(stint, undone_time) else {
+                return false;
+            };
+            undone_gain = plus(undone_gain, undone_credit);
+            let Some(member_credit) = self.view.earn(stint, time) else {
+                return self.stays_inside(i, undone_time);
+            };
+            gain = plus(gain, member_credit);
+        }
+        curve::denser(undone_gain, undone_time, gain, time)
     }
-    if 31 <= k {
-        return false;
+
+    // Whether the member at place k rolls back; the last one keeps its mode. Where the group so far has none among its credits both courses have,
+    // and nothing is reckoned.
+    pub(crate) fn rolls_back(&self, k: usize, c: Course) -> bool
+        requires { Along (seen_by self.now.view.now) self.now.view.now.moment self.now.members.now k c }
+        ensures { result ≡ mode_at by_density (seen_by self.now.view.now) self.now.view.now.moment self.now.members.now k c }
+    {
+        let job = usize::from(self.members[k]);
+        if self.view.sheet.rolls(job) {
+            return true;
+        }
+        if 31 <= k || self.view.sheet.cell(job, Column::Rollback) == NEVER {
+            return false;
+        }
+        c.inside && self.better_undone(k, c)
     }
-    if rollback_of(sheet, job) == NEVER {
-        return false;
-    }
-    if c.inside {
-        return better_undone(bytes, sheet, members, k, t, c);
-    }
-    false
 }

@@ -4,94 +4,72 @@ ghost use Rattle.planner.specs.Standing.{SheetBlank};
 ghost use Rattle.planner.specs.RowLaid.{waiting_row, laid_row, vacant_row, laid_sheet};
 ghost use Rattle.planner.specs.RowRight.{RowThere};
 
-use crate::keep::{link, put, put_own};
-use crate::sheet::{ASKS, END, PIECES, WAITS};
-use crate::wide;
+use crate::sheet::{Column, Sheet};
+use book::Judged;
 use cursor::field::value_at;
 use opening::head::head_at;
 use opening::held::held_at;
 
-// Whom a job waits for that requests this resource, and how long that one needs it.
-fn lay_wait<'a>(
-    bytes: &'a [u8],
-    starts: &'a [usize; 33],
-    holders: &'a [u8; 32],
-    job: usize,
-    resource: usize,
-    sheet: &mut [u32; 288],
-)
-    requires { job < 32 }
-    ensures { sheet.new ≡ waiting_row bytes.now starts.now holders.now job resource sheet.old }
-{
-    if 32 <= resource {
-        return;
-    }
-    let holder = holders[resource];
-    let row = wide(holder);
-    if 32 <= row {
-        return;
-    }
-    let held = held_at(bytes, starts[row], resource);
-    link(sheet, job, holder, held.hold, held.rollback);
-}
-
-// The row of one job, from the bytes of its record. Its curve stands after its held list.
-fn lay_row<'a>(
-    bytes: &'a [u8],
-    starts: &'a [usize; 33],
-    holders: &'a [u8; 32],
-    job: usize,
-    sheet: &mut [u32; 288],
-)
-    requires { RowThere bytes.now starts.now holders.now job }
-    ensures { sheet.new ≡ laid_row bytes.now starts.now holders.now job sheet.old }
-{
-    let place = starts[job];
-    let head = head_at(bytes, place);
-    let curve = place + 11 + 5 * head.holds;
-    let pieces = value_at(bytes, curve, 1);
-    let end = curve + 1 + 10 * pieces;
-    put(sheet, END, job, end as u32);
-    put(sheet, PIECES, job, pieces as u32);
-    put_own(
-        sheet,
-        job,
-        head.run,
-        head.rollback,
-        head.rolling,
-        head.request.resource,
-    );
-    let resource = wide(head.request.resource);
-    lay_wait(bytes, starts, holders, job, resource, sheet);
-}
-
-// A row without a job, in a sheet of zeros: it asks for nothing and waits for nobody.
-fn lay_vacant(sheet: &mut [u32; 288], row: usize)
-    requires { row < 32 }
-    ensures { sheet.new ≡ vacant_row row sheet.old }
-{
-    put(sheet, ASKS, row, 255);
-    put(sheet, WAITS, row, 255);
-}
-
-// The sheet comes in as zeros.
-pub(crate) fn lay<'a>(
-    bytes: &'a [u8],
-    starts: &'a [usize; 33],
-    holders: &'a [u8; 32],
-    n: usize,
-    sheet: &mut [u32; 288],
-)
-    requires { SheetBlank bytes.now starts.now holders.now n sheet.old }
-    ensures { sheet.new ≡ laid_sheet bytes.now starts.now holders.now n }
-{
-    let mut i: usize = 0;
-    while i < 32 {
-        if i < n {
-            lay_row(bytes, starts, holders, i, sheet);
-        } else {
-            lay_vacant(sheet, i);
+impl Sheet {
+    // Whom a job waits for that requests this resource, and how long that one needs it.
+    fn lay_wait(&mut self, bytes: &[u8], j: &Judged, job: usize, resource: usize)
+        requires { job < 32 }
+        ensures { self.new ≡ waiting_row bytes.now j.entry.now.starts j.entry.now.holders job resource self.old }
+    {
+        if 32 <= resource {
+            return;
         }
-        i += 1;
+        let holder = j.holders[resource];
+        let row = usize::from(holder);
+        if 32 <= row {
+            return;
+        }
+        let held = held_at(bytes, j.starts[row], resource);
+        self.link(job, holder, held.hold, held.rollback);
+    }
+
+    // The row of one job, from the bytes of its record. Its curve stands after its held list.
+    fn lay_row(&mut self, bytes: &[u8], j: &Judged, job: usize)
+        requires { RowThere bytes.now j.now.starts j.now.holders job }
+        ensures { self.new ≡ laid_row bytes.now j.entry.now.starts j.entry.now.holders job self.old }
+    {
+        let place = j.starts[job];
+        let head = head_at(bytes, place);
+        let curve = place + 11 + 5 * head.holds;
+        let pieces = value_at(bytes, curve, 1);
+        let end = curve + 1 + 10 * pieces;
+        self.put(job, Column::End, end as u32);
+        self.put(job, Column::Pieces, pieces as u32);
+        self.put_own(
+            job,
+            head.run,
+            head.rollback,
+            head.rolling,
+            head.request.resource,
+        );
+        let resource = usize::from(head.request.resource);
+        self.lay_wait(bytes, j, job, resource);
+    }
+
+    // A row without a job, in a sheet of zeros: it asks for nothing and waits for nobody.
+    fn lay_vacant(&mut self, row: usize)
+        requires { row < 32 }
+        ensures { self.new ≡ vacant_row row self.old }
+    {
+        self.put(row, Column::Asks, 255);
+        self.put(row, Column::Waits, 255);
+    }
+
+    // The sheet comes in as zeros.
+    pub(crate) fn lay(&mut self, bytes: &[u8], j: &Judged)
+        requires { SheetBlank bytes.now j.now.starts j.now.holders j.now.jobs self.old }
+        ensures { self.new ≡ laid_sheet bytes.now j.entry.now.starts j.entry.now.holders j.entry.now.jobs }
+    {
+        for job in 0..j.jobs {
+            self.lay_row(bytes, j, job);
+        }
+        for row in j.jobs..32 {
+            self.lay_vacant(row);
+        }
     }
 }

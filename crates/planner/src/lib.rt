@@ -1,14 +1,14 @@
 // The planner of 01: from a book's bytes to its victims and its plan, or its refusal.
 #![tactic(auto)]
 
-ghost use Rattle.std.specs.Prelude.{◌≡◌};
-
+use crate::sheet::Sheet;
 use gus::{Course, Part};
 use job::Job;
 
 pub mod sheet; // what a round asks of the jobs: one sheet, and its readers
 pub mod lay; // the sheet of a book's jobs
 pub mod keep; // the sheet brought up to date after a part
+pub mod view; // the jobs as a round sees them
 pub mod best; // the best of those seen so far
 pub mod course; // time and utility along a row of jobs
 pub mod circles; // V.1: wait circles
@@ -33,11 +33,13 @@ pub mod first; // the first part of the plan, by one round
 pub struct State {
     pub jobs: [Job; 32],
     pub holders: [u8; 32],
-    pub sheet: [u32; 288],
+    pub sheet: Sheet,
 }
 
+// In the four below each array stands with its count: nothing allocates, and 01 asks for the room for parts as an array of 96 by value.
+
 // The victims by the lowest member of their circle: places 0 .. count of list, and 0 in the others.
-// knot is the lowest job of a circle that has none, and 255 where each circle has one.
+// knot is the lowest job of a circle that has none, and 255 where each circle has one, a number as in `knot_of`.
 #[derive(Clone, Copy)]
 pub struct Victims {
     pub list: [u8; 32],
@@ -63,12 +65,9 @@ pub struct PlanParts {
     pub moment: u32,
 }
 
-// number: 0, or the refusal's, and then place is its place and the rest is empty.
-// Victims 0 .. victimcount and parts 0 .. count are the answer's; the places after them are empty.
+// The plan of a book: victims 0 .. victimcount and parts 0 .. count, and empty places after them.
 #[derive(Clone, Copy)]
-pub struct Planned {
-    pub number: u8,
-    pub place: usize,
+pub struct BookPlan {
     pub victims: [u8; 32],
     pub victimcount: usize,
     pub parts: [Part; 96],
@@ -76,19 +75,4 @@ pub struct Planned {
     pub rounds: usize,
     pub total: i32,
     pub end: u32,
-}
-
-// number: 0, or the refusal's, and then place is its place. some: whether the plan has a part; where it has none, part is empty.
-#[derive(Clone, Copy)]
-pub struct FirstPart {
-    pub number: u8,
-    pub place: usize,
-    pub some: bool,
-    pub part: Part,
-}
-
-fn wide(n: u8) -> usize
-    ensures { result ≡ n }
-{
-    n as usize
 }

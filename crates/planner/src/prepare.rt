@@ -1,23 +1,33 @@
 // The sheet made ready for the first round: the book's jobs, with the victims in rollback.
 ghost use Rattle.planner.specs.Standing.{Unlaid};
-ghost use Rattle.planner.specs.Preparing.{Prepared};
+ghost use Rattle.planner.specs.Preparing.{PreparedFor};
 
 use crate::Victims;
-use crate::keep::settle_rows;
-use crate::lay::lay;
-use crate::victim_list::victims;
+use crate::sheet::Sheet;
+use crate::view::View;
 use book::Judged;
+use cursor::Refusal;
 
-// Where a circle has no victim, nobody is sent back.
-pub(crate) fn prepare(bytes: &[u8], j: Judged, sheet: &mut [u32; 288]) -> Victims
-    requires { Unlaid bytes.now j sheet.old }
-    ensures { Prepared bytes.now sheet.new result }
+const KNOT: u8 = 10;
+
+// The victims, or KNOT where a circle has none, and then nobody is sent back.
+pub(crate) fn prepare(bytes: &[u8], j: &Judged, sheet: &mut Sheet) -> Result<Victims, Refusal>
+    requires { Unlaid bytes.now j.now sheet.old }
+    ensures { PreparedFor bytes.now sheet.new result }
 {
-    lay(bytes, &j.starts, &j.holders, j.jobs, sheet);
-    let v = victims(bytes, sheet, j.jobs, j.now);
+    sheet.lay(bytes, j);
+    let view = View {
+        bytes,
+        sheet,
+        moment: j.now,
+    };
+    let v = view.victims(j.jobs);
     if v.knot < 32 {
-        return v;
+        return Err(Refusal {
+            number: KNOT,
+            place: usize::from(v.knot),
+        });
     }
-    settle_rows(v, sheet);
-    v
+    sheet.settle_rows(v);
+    Ok(v)
 }

@@ -2,14 +2,13 @@
 ghost use Rattle.std.specs.Prelude.{◌≡◌};
 ghost use Rattle.gus.specs.Choice.{by_density};
 ghost use Rattle.gus.specs.Round.{worthwhile};
-ghost use Rattle.planner.specs.Sheet.{seen};
+ghost use Rattle.planner.specs.Seen.{seen_by};
 ghost use Rattle.planner.specs.Asking.{Scanning};
 ghost use Rattle.planner.specs.LaidOut.{laid_out};
 ghost use Rattle.planner.specs.Round.{no_group, round_of};
 
-use crate::group::group;
-use crate::scan::scan;
-use crate::{GroupParts, wide};
+use crate::GroupParts;
+use crate::view::View;
 use gus::{Course, Part};
 
 // "is appended if above zero"
@@ -22,33 +21,24 @@ fn above_zero(c: Course) -> bool
 fn no_group() -> GroupParts
     ensures { result ≡ laid_out no_group }
 {
-    let empty = Part {
-        job: 0,
-        rolling: false,
-        time: 0,
-    };
-    let course = Course {
-        time: 0,
-        gain: 0,
-        inside: true,
-    };
     GroupParts {
-        parts: [empty; 32],
+        parts: [Part::EMPTY; 32],
         count: 0,
-        course,
+        course: Course::START,
     }
 }
 
-// A group without parts: no group is worth more than zero, and the plan ends.
-pub(crate) fn round<'a>(bytes: &'a [u8], sheet: &'a [u32; 288], n: usize, t: u32) -> GroupParts
-    requires { Scanning (seen bytes.now sheet.now) n t }
-    ensures { result ≡ laid_out (round_of by_density (seen bytes.now sheet.now) t) }
-{
-    let b = scan(bytes, sheet, n, t);
-    let best = b.course;
-    if above_zero(best) {
-        let last = wide(b.last);
-        return group(bytes, sheet, last, t);
+impl View<'_> {
+    // A group without parts: no group is worth more than zero, and the plan ends.
+    pub(crate) fn round(&self, n: usize) -> GroupParts
+        requires { Scanning (seen_by self.now) n self.now.moment }
+        ensures { result ≡ laid_out (round_of by_density (seen_by self.now) self.now.moment) }
+    {
+        let b = self.scan(n);
+        if above_zero(b.course) {
+            let last = usize::from(b.last);
+            return self.group(last);
+        }
+        no_group()
     }
-    no_group()
 }

@@ -8,9 +8,9 @@ ghost use Rattle.planner.specs.Working.{Starting};
 ghost use Rattle.planner.specs.Staged.{Rounded};
 
 use crate::apply::{holders_after, worked_job};
-use crate::keep::{EVERY, put_worked};
-use crate::round::round;
-use crate::{PlanParts, State, wide};
+use crate::keep::{Asking, EVERY};
+use crate::view::View;
+use crate::{PlanParts, State};
 use gus::Part;
 
 fn sum(total: i32, gain: i32) -> i32
@@ -23,61 +23,45 @@ fn sum(total: i32, gain: i32) -> i32
 // The state stands in one local from the first round to the last, and each part changes there what it touches: handed from function to
 // function it would be copied each time, and that is most of what a round with short chains costs. Who may still ask for something is
 // on a list beside it.
-pub(crate) fn rounds<'a>(bytes: &'a [u8], start: State, n: usize, t: u32) -> PlanParts
+pub(crate) fn rounds(bytes: &[u8], start: State, n: usize, t: u32) -> PlanParts
     requires { Starting bytes.now start n t }
     ensures { Rounded (rounds 32 by_density (pay_from (book_of bytes.now)) start.jobs t) result }
 {
-    let empty = Part {
-        job: 0,
-        rolling: false,
-        time: 0,
-    };
     let mut state = start;
-    let mut plan = [empty; 96];
-    let mut askers = EVERY;
-    let mut asking: usize = n;
-    let mut count: usize = 0;
-    let mut total: i32 = 0;
-    let mut moment: u32 = t;
-    let mut i: usize = 0;
-    while i < 32 {
-        let g = round(bytes, &state.sheet, n, moment);
-        let parts = g.parts;
-        let course = g.course;
+    let mut asking = Asking {
+        list: EVERY,
+        count: n,
+    };
+    let mut plan = PlanParts {
+        parts: [Part::EMPTY; 96],
+        count: 0,
+        rounds: 0,
+        total: 0,
+        moment: t,
+    };
+    for _ in 0..32usize {
+        let view = View {
+            bytes,
+            sheet: &state.sheet,
+            moment: plan.moment,
+        };
+        let g = view.round(n);
         if g.count == 0 {
-            return PlanParts {
-                parts: plan,
-                count,
-                rounds: i,
-                total,
-                moment,
-            };
+            return plan;
         }
-        let mut k: usize = 0;
-        while k < g.count {
-            let p = parts[k];
-            let number = wide(p.job);
-            let old = state.jobs[number];
-            let new = worked_job(old, p.rolling, p.time);
+        let parts = g.parts;
+        for p in &parts[..g.count] {
+            let number = usize::from(p.job);
+            let new = worked_job(state.jobs[number], p.rolling, p.time);
             state.jobs[number] = new;
-            let holders = state.holders;
-            let held = new.held;
-            let handed = holders_after(holders, p.job, held);
-            state.holders = handed;
-            asking = put_worked(&mut state.sheet, &mut askers, asking, p.job, new);
-            plan[count + k] = p;
-            k += 1;
+            state.holders = holders_after(state.holders, p.job, &new.held);
+            state.sheet.put_worked(&mut asking, p.job, &new);
+            plan.parts[plan.count] = *p;
+            plan.count += 1;
         }
-        count += g.count;
-        total = sum(total, course.gain);
-        moment += course.time;
-        i += 1;
+        plan.rounds += 1;
+        plan.total = sum(plan.total, g.course.gain);
+        plan.moment += g.course.time;
     }
-    PlanParts {
-        parts: plan,
-        count,
-        rounds: i,
-        total,
-        moment,
-    }
+    plan
 }

@@ -1,93 +1,86 @@
 // The best group of a round (VI.1).
-ghost use Rattle.std.specs.Prelude.{◌≡◌, ◌&&◌, ◌<◌, ltb};
+ghost use Rattle.std.specs.Prelude.{◌≡◌, ◌<◌};
 ghost use Rattle.gus.specs.Course.{start, to_end};
 ghost use Rattle.gus.specs.Choice.{by_density};
 ghost use Rattle.gus.specs.Group.{group_of};
 ghost use Rattle.gus.specs.Round.{offered, consider, best_of};
-ghost use Rattle.planner.specs.Sheet.{run_in, rollback_in, seen};
+ghost use Rattle.planner.specs.Seen.{seen_by};
 ghost use Rattle.planner.specs.Asking.{Stepping, Scanning};
 
 use crate::best::{no_best, pick};
-use crate::chain::follow;
-use crate::course::{beats, run_alone};
-use crate::sheet::{rollback_of, rolls, run_of, waits_of};
-use crate::walk::walk;
+use crate::course::beats;
+use crate::sheet::Column;
+use crate::view::View;
 use gus::{Best, Course};
-
-// A job to its end by itself.
-fn alone<'a>(bytes: &'a [u8], sheet: &'a [u32; 288], job: usize, t: u32) -> Course
-    requires { Stepping (seen bytes.now sheet.now) t job start }
-    ensures { result ≡ to_end (seen bytes.now sheet.now) t job start }
-{
-    if rolls(sheet, job) {
-        let time = rollback_of(sheet, job);
-        return Course {
-            time,
-            gain: 0,
-            inside: true,
-        };
-    }
-    run_alone(bytes, sheet, job, t)
-}
-
-// The course of a job's group. A job that waits for nobody is its whole chain, and most wait for nobody.
-fn score_of<'a>(bytes: &'a [u8], sheet: &'a [u32; 288], last: usize, t: u32) -> Course
-    requires { Stepping (seen bytes.now sheet.now) t last start }
-    ensures { result ≡ (group_of by_density (seen bytes.now sheet.now) t last).course }
-{
-    if 32 <= waits_of(sheet, last) {
-        return alone(bytes, sheet, last, t);
-    }
-    let mut members = [0u8; 32];
-    let from = follow(sheet, last, &mut members);
-    let mut modes = [false; 32];
-    walk(bytes, sheet, &members, from, t, &mut modes)
-}
-
-fn is_left(sheet: &[u32; 288], job: usize) -> bool
-    requires { job < 32 }
-    ensures { result ≡ ltb 0 (run_in sheet.now job) && ltb 0 (rollback_in sheet.now job) }
-{
-    if 0 < run_of(sheet, job) {
-        return 0 < rollback_of(sheet, job);
-    }
-    false
-}
 
 // A job's group against the best of those before it. "A group in which any job would finish at a moment with none is not a candidate" (02, R-7).
 fn offer_group(job: u8, c: Course, b: Best) -> Best
     ensures { result ≡ offered job c b }
 {
     if c.inside {
-        let best = b.course;
-        let wins = beats(c, best);
+        let wins = beats(c, b.course);
         return pick(wins, job, c, b);
     }
     b
 }
 
-// A job, if it is left, against the best of those before it.
-fn consider<'a>(bytes: &'a [u8], sheet: &'a [u32; 288], job: usize, t: u32, b: Best) -> Best
-    requires { Stepping (seen bytes.now sheet.now) t job start }
-    ensures { result ≡ consider by_density (seen bytes.now sheet.now) t job b }
-{
-    if is_left(sheet, job) {
-        let c = score_of(bytes, sheet, job, t);
-        return offer_group(job as u8, c, b);
+impl View<'_> {
+    // A job to its end by itself.
+    fn alone(&self, job: usize) -> Course
+        requires { Stepping (seen_by self.now) self.now.moment job start }
+        ensures { result ≡ to_end (seen_by self.now) self.now.moment job start }
+    {
+        if self.sheet.rolls(job) {
+            return Course {
+                time: self.sheet.cell(job, Column::Rollback),
+                ..Course::START
+            };
+        }
+        self.run_alone(job)
     }
-    b
-}
 
-// The round's best group, as numbers.
-pub(crate) fn scan<'a>(bytes: &'a [u8], sheet: &'a [u32; 288], n: usize, t: u32) -> Best
-    requires { Scanning (seen bytes.now sheet.now) n t }
-    ensures { result ≡ best_of by_density (seen bytes.now sheet.now) t }
-{
-    let mut b = no_best();
-    let mut job: usize = 0;
-    while job < n {
-        b = consider(bytes, sheet, job, t, b);
-        job += 1;
+    // The course of a job's group. A job that waits for nobody is its whole chain, and most wait for nobody.
+    fn score_of(&self, last: usize) -> Course
+        requires { Stepping (seen_by self.now) self.now.moment last start }
+        ensures { result ≡ (group_of by_density (seen_by self.now) self.now.moment last).course }
+    {
+        if 32 <= self.sheet.cell(last, Column::Waits) {
+            return self.alone(last);
+        }
+        let mut members = [0; 32];
+        let chain = self.chain_of(last, &mut members);
+        let mut modes = [false; 32];
+        chain.walk(&mut modes)
     }
-    b
+
+    fn is_left(&self, job: usize) -> bool
+        requires { job < 32 }
+        ensures { result ≡ (seen_by self.now).left job }
+    {
+        0 < self.sheet.cell(job, Column::Run) && 0 < self.sheet.cell(job, Column::Rollback)
+    }
+
+    // A job, if it is left, against the best of those before it.
+    fn consider(&self, job: usize, b: Best) -> Best
+        requires { Stepping (seen_by self.now) self.now.moment job start }
+        ensures { result ≡ consider by_density (seen_by self.now) self.now.moment job b }
+    {
+        if self.is_left(job) {
+            let c = self.score_of(job);
+            return offer_group(job as u8, c, b);
+        }
+        b
+    }
+
+    // The best group among those of the first n jobs, as numbers.
+    pub(crate) fn scan(&self, n: usize) -> Best
+        requires { Scanning (seen_by self.now) n self.now.moment }
+        ensures { result ≡ best_of by_density (seen_by self.now) self.now.moment }
+    {
+        let mut b = no_best();
+        for job in 0..n {
+            b = self.consider(job, b);
+        }
+        b
+    }
 }

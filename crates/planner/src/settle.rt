@@ -9,13 +9,8 @@ use job::{Job, Request};
 fn sent_back(mut j: Job) -> Job
     ensures { result ≡ sent_back j }
 {
-    let none = Request {
-        resource: 255,
-        hold: 0,
-        rollback: 0,
-    };
     j.rolling = true;
-    j.request = none;
+    j.request = Request::NONE;
     j
 }
 
@@ -24,13 +19,9 @@ pub(crate) fn settle(mut s: State, v: Victims) -> State
     requires { Handed v }
     ensures { result ≡ record { jobs = settled s.jobs (victims_in v); holders = s.holders; sheet = s.sheet } }
 {
-    let count = v.count;
-    let mut k: usize = 0;
-    while k < count {
-        let victim = v.list[k] as usize;
-        let j = s.jobs[victim];
-        s.jobs[victim] = sent_back(j);
-        k += 1;
+    for victim in &v.list[..v.count] {
+        let job = usize::from(*victim);
+        s.jobs[job] = sent_back(s.jobs[job]);
     }
     s
 }

@@ -1,107 +1,76 @@
-// The sheet: what a round asks of the jobs, in one array with a row of nine numbers for each job. Its columns are known here, where they are
-// read, and to those who write them, lay.rt and keep.rt.
-ghost use Rattle.std.specs.Prelude.{◌≡◌, ◌<◌, get_or};
-ghost use Rattle.gus.specs.Waits.{nobody};
-ghost use Rattle.planner.specs.Sheet.{run_in, rollback_in, hold_in, undo_in, waits_in, rolling_in, end_in, pieces_in, asks_in};
+// The sheet: what a round asks of the jobs, a row of nine numbers for each job.
+ghost use Rattle.std.specs.Prelude.{◌≡◌, ℕ, List, ◌+◌, ◌*◌, ◌<◌, length, replicate};
+ghost use Rattle.planner.specs.Sheet.{rolling_in};
+ghost use Rattle.planner.specs.Columns.{number_of, cell_in};
+ghost use Rattle.planner.specs.Putting.{put};
 
-pub(crate) const RUN: usize = 0;
+use std::marker::Model;
 
-pub(crate) const ROLLBACK: usize = 1;
-
-pub(crate) const HOLD: usize = 2;
-
-pub(crate) const UNDO: usize = 3;
-
-pub(crate) const WAITS: usize = 4;
-
-pub(crate) const MODE: usize = 5;
-
-pub(crate) const END: usize = 6;
-
-pub(crate) const PIECES: usize = 7;
-
-pub(crate) const ASKS: usize = 8;
+// The numbers of a row, in their order.
+#[derive(Clone, Copy)]
+pub(crate) enum Column {
+    Run, // run time left
+    Rollback, // rollback time, or NEVER
+    Hold, // how long the job that this one waits for runs until what this one requests is free
+    Undo, // how long it rolls back until then
+    Waits, // whom this one waits for: a job, or 255
+    Mode, // 1 in rollback, else 0
+    End, // where its curve's termination stands in the book
+    Pieces, // how many pieces stand before that
+    Asks, // what it requests: a resource, or 255
+}
 
 // The rollback time of a job that can't be rolled back.
 pub(crate) const NEVER: u32 = 65535;
 
-fn number(n: u32) -> usize
-    ensures { result ≡ n }
-{
-    n as usize
+// All rows in one array; the proofs see the list of its numbers. A row is a plain number, as a job is, and each method asks that it be below 32: a
+// type for it would be made and taken apart wherever a job's number also stands for a place in an array of jobs.
+#[derive(Clone, Copy)]
+pub struct Sheet {
+    cells: [u32; 288],
 }
 
-// The definitions have nobody past the end of the sheet; nothing past its end is read.
-fn number_at(sheet: &[u32; 288], place: usize) -> usize
-    requires { place < 288 }
-    ensures { result ≡ get_or sheet.now place nobody }
-{
-    let all: &[u32] = sheet;
-    number(all[place])
+impl Model for Sheet {
+    ghost Value = { List ℕ };
+
+    ghost view = { λ s. s.cells };
+
+    ghost inverse = { λ cells. record { cells = cells } };
 }
 
-pub(crate) fn run_of(sheet: &[u32; 288], job: usize) -> u32
-    requires { job < 32 }
-    ensures { result ≡ run_in sheet.now job }
+fn place(row: usize, column: Column) -> usize
+    requires { row < 32 }
+    ensures { result ≡ 9 * row + number_of column }
 {
-    sheet[9 * job + RUN]
+    9 * row + column as usize
 }
 
-pub(crate) fn rollback_of(sheet: &[u32; 288], job: usize) -> u32
-    requires { job < 32 }
-    ensures { result ≡ rollback_in sheet.now job }
-{
-    sheet[9 * job + ROLLBACK]
-}
+impl Sheet {
+    pub(crate) fn blank() -> Sheet
+        ensures { result ≡ replicate 288 0 }
+    {
+        Sheet { cells: [0; 288] }
+    }
 
-// How long the job that this one waits for runs until what this one requests is free; rolls back, in the next.
-pub(crate) fn hold_for(sheet: &[u32; 288], job: usize) -> u32
-    requires { job < 32 }
-    ensures { result ≡ hold_in sheet.now job }
-{
-    sheet[9 * job + HOLD]
-}
+    pub(crate) fn cell(&self, row: usize, column: Column) -> u32
+        requires { row < 32 }
+        ensures value { result ≡ cell_in column self.now row }
+        ensures whole { length self.now ≡ 288 }
+    {
+        self.cells[place(row, column)]
+    }
 
-pub(crate) fn undo_for(sheet: &[u32; 288], job: usize) -> u32
-    requires { job < 32 }
-    ensures { result ≡ undo_in sheet.now job }
-{
-    sheet[9 * job + UNDO]
-}
+    pub(crate) fn put(&mut self, row: usize, column: Column, n: u32)
+        requires { row < 32 }
+        ensures { self.new ≡ put (number_of column) row n self.old }
+    {
+        self.cells[place(row, column)] = n;
+    }
 
-pub(crate) fn waits_of(sheet: &[u32; 288], job: usize) -> usize
-    requires { job < 32 }
-    ensures { result ≡ waits_in sheet.now job }
-{
-    number_at(sheet, 9 * job + WAITS)
-}
-
-// What it requests: a resource, or 255.
-pub(crate) fn asks_of(sheet: &[u32; 288], job: usize) -> usize
-    requires { job < 32 }
-    ensures { result ≡ asks_in sheet.now job }
-{
-    number_at(sheet, 9 * job + ASKS)
-}
-
-pub(crate) fn rolls(sheet: &[u32; 288], job: usize) -> bool
-    requires { job < 32 }
-    ensures { result ≡ rolling_in sheet.now job }
-{
-    sheet[9 * job + MODE] == 1
-}
-
-// Where its curve's termination stands in the book; how many pieces stand before it, in the next.
-pub(crate) fn end_of(sheet: &[u32; 288], job: usize) -> usize
-    requires { job < 32 }
-    ensures { result ≡ end_in sheet.now job }
-{
-    number(sheet[9 * job + END])
-}
-
-pub(crate) fn pieces_of(sheet: &[u32; 288], job: usize) -> usize
-    requires { job < 32 }
-    ensures { result ≡ pieces_in sheet.now job }
-{
-    number(sheet[9 * job + PIECES])
+    pub(crate) fn rolls(&self, row: usize) -> bool
+        requires { row < 32 }
+        ensures { result ≡ rolling_in self.now row }
+    {
+        self.cell(row, Column::Mode) == 1
+    }
 }

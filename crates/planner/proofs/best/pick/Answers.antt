@@ -11,5 +11,5 @@ returns c =
     let a = c.args in
     let new : SFits w32 a.c.gain = search rules in
     let old : SFits w32 a.b.course.gain = search rules in
-    rw (to_z-of_z {w = w32} {z = c.either_gain.result} (search rules), c.either_number.ensures, c.either_time.ensures, c.either_gain.ensures, c.either_flag.ensures, to_z-of_z new, to_z-of_z old)
-    (picked-fields a.job a.c a.b a.wins c.either_flag-taken.result c.either_flag-taken.ensures)
+    rw (to_z-of_z {w = w32} {z = c.either-gain.result} (search rules), c.either-last.ensures, c.either-time.ensures, c.either-gain.ensures, c.either-inside.ensures, to_z-of_z new, to_z-of_z old)
+    (picked-fields a.job a.c a.b a.wins c.either-taken.result c.either-taken.ensures)

@@ -4,6 +4,3 @@ use Rattle.planner.proofs.chain.follow.Given as goal
 
 abbrev pub invariant-loop-from : goal.invariant-loop-from
 invariant-loop-from l = Following (waits_in l.sheet) l.last l.members l.from l.job
-
-abbrev pub decreases-loop-from : goal.decreases-loop-from
-decreases-loop-from l = l.from

@@ -1,5 +1,12 @@
 -- `planner::prepare::prepare` meets its contract: the sheet of the book's jobs, and then with the victims in rollback.
-use native.Mathlib.Omega.{arith}
+use Prim.Native.Nat.{ℕ}
+use mathlib.Core.Path.{◌≡◌, ap, ◌∙◌}
+use mathlib.Core.List.{List}
+use Rattle.book.specs.Format.{book_of}
+use Rattle.gus.specs.Victims.{knot_of}
+use Rattle.opening.specs.Planned.{view_from}
+use Rattle.planner.specs.declared.Victims.{Victims}
+use Rattle.planner.specs.Listing.{listed}
 use Rattle.planner.specs.Preparing.{standing, opened-shown, first-scanning, victims-are, victims-handed, sent_is}
 use Rattle.planner.proofs.prepare.prepare.Goals as goal
 
@@ -11,13 +18,17 @@ victims-v-requires c =
     let a = c.requires.accepted in
     first-scanning c.args.bytes.now a (opened-shown c.args.bytes.now a c.lay.ensures)
 
+-- the knot of the victims is the definition's
+knot-is : (s : List ℕ) {v : Victims} → v ≡ listed (view_from (book_of s)) (book_of s).now → v.knot ≡ knot_of (view_from (book_of s)) (book_of s).now
+unfolding listed
+knot-is s e = ap (λ (x : Victims). x.knot) e
+
 pub returns-then-v-lt32 : goal.returns-then-v-lt32
 returns-then-v-lt32 c =
+    let s = c.args.bytes.now in
     let a = c.requires.accepted in
-    record {
-      victims = victims-are c.args.bytes.now a (opened-shown c.args.bytes.now a c.lay.ensures) c.victims-v.ensures;
-      sheet_is = λ h. absurd (omega (arith, c.if-v-lt32.true));
-    }
+    let knot = knot-is s (victims-are s a (opened-shown s a c.lay.ensures) c.victims-v.ensures) in
+    (λ k. record { number = 10; place = (c.from.ensures ∙ knot) k }, rw knot at c.if-v-lt32.true)
 
 pub settle_rows-requires : goal.settle_rows-requires
 settle_rows-requires c =
@@ -26,7 +37,8 @@ settle_rows-requires c =
 
 pub returns : goal.returns
 returns c =
+    let s = c.args.bytes.now in
     let a = c.requires.accepted in
     let laid = c.lay.ensures in
-    let e = victims-are c.args.bytes.now a (opened-shown c.args.bytes.now a laid) c.victims-v.ensures in
-    record { victims = e; sheet_is = λ h. sent_is c.args.bytes.now a e laid c.settle_rows.ensures }
+    let e = victims-are s a (opened-shown s a laid) c.victims-v.ensures in
+    (record { victims = e; sheet_is = λ h. sent_is s a e laid c.settle_rows.ensures }, c.if-v-lt32.false)

@@ -1,14 +1,15 @@
 -- `planner::rounds::rounds` meets its contract: the plan so far, joined with the rounds left, is the whole plan, and the state is the one that the rounds reach.
-use mathlib.Core.Path.{◌≡◌, refl, sym, ◌∙◌}
+use mathlib.Core.Path.{◌≡◌, refl, sym, ap, ◌∙◌}
 use mathlib.Core.List.{List}
 use mir.Syntax.{w32}
 use mir.Val.{to_z, of_z}
 use mir.Facts.{to_z-of_z}
-use lib.IntN.{◌+ℤ◌}
+use lib.IntN.{ℤ, ◌+ℤ◌}
 use native.Mathlib.Omega.{arith}
 use Prim.Native.Nat.{ℕ, suc, ◌+◌, ◌-◌, ◌<◌}
-use lib.ListN.{length, get_or, take}
+use lib.ListN.{length, get_or, set, take}
 use lib.Seq.{get_or-take}
+use Rattle.std.proofs.Common.{add-zero, add_assoc}
 use borrow.Author.Rules.{rules}
 use Rattle.laws.specs.Signed.{fits-abs}
 use Rattle.laws.specs.Fill.{padded}
@@ -17,7 +18,9 @@ use Rattle.gus.specs.Round.{rounds}
 use Rattle.planner.specs.Round.{round_of}
 use Rattle.invariants.specs.Fair.{by-density-fair}
 use Rattle.invariants.specs.Replay.{runs-replay}
+use Rattle.gus.specs.declared.Part.{Part}
 use Rattle.planner.specs.declared.GroupParts.{GroupParts}
+use Rattle.planner.specs.declared.PlanParts.{PlanParts}
 use Rattle.planner.specs.declared.State.{State}
 use Rattle.planner.specs.LaidOut.{laid_out}
 use Rattle.planner.specs.Askers.{counted}
@@ -32,6 +35,7 @@ use Rattle.planner.specs.Shown.{pay_in, shown-scanning, shown-round}
 use Rattle.planner.specs.Working.{Starting, Going, working-begin, working-rework, working-next, working-ended, starting-askers, reached-next}
 use Rattle.planner.proofs.rounds.rounds.Invariants.{stage_of}
 use Rattle.planner.proofs.rounds.rounds.Goals as goal
+use Rattle.planner.proofs.rounds.rounds.Goals.{Else-g-eq0}
 
 -- A TURN of the outer loop, from the stage that the locals make: its group is the definition's. Where it has parts, they can be made one after the
 -- other and joined to the plan
@@ -40,6 +44,7 @@ record Grouped (bytes : List ℕ) (s : Stage) (g : GroupParts) : Type 0 where
   join : Joinable s g
   some : 0 < length (round_at by_density (pay_in bytes) s).parts
   long : length (take g.count g.parts) ≡ g.count
+  total : to_z w32 (of_z w32 s.total) ≡ s.total
   gain : to_z w32 (of_z w32 g.course.gain) ≡ g.course.gain
 
 module _ {bytes : List ℕ} {n t i asking : ℕ} {start : State} {s : Stage} {askers : List ℕ} {g : GroupParts}
@@ -56,146 +61,134 @@ module _ {bytes : List ℕ} {n t i asking : ℕ} {start : State} {s : Stage} {as
         join = j;
         some = some-parts by_density (pay_in bytes) s same-group h;
         long = group-length by_density (pay_in bytes) s same-group;
+        total = to_z-of_z {w = w32} (fits-abs _ (omega (arith, j.total)));
         gain = to_z-of_z {w = w32} (fits-abs _ (omega (arith, j.gain)));
       }
 
-pub loop-i-init : goal.loop-i-init
+-- the group of a round that has one
+group : (c : Else-g-eq0) → Grouped c.args.bytes.now (stage_of c.loop.state c.loop.plan) c.round-g.result
+group c = grouped c.requires c.loop.invariant.going c.round-g.ensures (omega (arith, c.if-g-eq0.false))
+
+-- whom each of its parts names
+named : (c : Else-g-eq0) (k : ℕ) → k < length (take c.round-g.result.count c.round-g.result.parts) → (get_or (take c.round-g.result.count c.round-g.result.parts) k no_part).job < 32
+named c k h =
+    let g = group c in
+    let below : k < c.round-g.result.count = omega (arith, g.long) in
+    rw get_or-take (g.join.jobs.below k below)
+
+-- the numbers of a plan that is as before but for its parts
+numbers : {plan : PlanParts} {parts : List Part} {count rounds moment : ℕ} {total : ℤ} → plan ≡ record { parts = parts; count = count; rounds = rounds; total = total; moment = moment } → (plan.count ≡ count) × (plan.rounds ≡ rounds) × (plan.total ≡ total) × (plan.moment ≡ moment)
+numbers e = (ap (λ (x : PlanParts). x.count) e, ap (λ (x : PlanParts). x.rounds) e, ap (λ (x : PlanParts). x.total) e, ap (λ (x : PlanParts). x.moment) e)
+
+-- a round less is left
+one-less : (i : ℕ) → i < 32 → 32 - i ≡ suc (32 - (i + 1))
+one-less i h = omega arith
+
+pub loop-init : goal.loop-init
 unfolding opening padded stage_after counted
-loop-i-init c =
+loop-init c =
     let y = c.requires in
-    record { within = omega arith; staged = staged-begin y.sane y.now; reached = refl; idle = y.idle; kept = y.kept; asked = starting-askers y }
+    record {
+      going = record { within = omega arith; staged = staged-begin y.sane y.now; reached = refl; idle = y.idle; kept = y.kept; asked = starting-askers y };
+      counted = refl;
+    }
 
 pub round-g-requires : goal.round-g-requires
 round-g-requires c =
     let y = c.requires in
-    let l = c.loop-i.invariant in
+    let l = c.loop.invariant.going in
     let f = l.staged.fits in
     shown-scanning c.args.bytes.now y.accepted f.jobs.ready.sound l.kept.rows (sane-modest f.jobs) l.idle y.few (fitting-moment f)
 
 pub returns-then-g-eq0 : goal.returns-then-g-eq0
 returns-then-g-eq0 c =
+    let l = c.loop.invariant.going in
+    let none = no-parts by_density _ (stage_of c.loop.state c.loop.plan) (same-group c.requires l c.round-g.ensures) (omega (arith, c.if-g-eq0.true)) in
+    staged-stopped (rw (one-less c.loop.counter (omega arith)) at l.staged) none
+
+pub slice_bounds-parts-end : goal.slice_bounds-parts-end
+slice_bounds-parts-end c = omega (arith, (group (goal.at.slice_bounds-parts-end c).Else-g-eq0).join.few)
+
+pub slice_bounds-p-items-end : goal.slice_bounds-p-items-end
+slice_bounds-p-items-end c = sym (group (goal.at.slice_bounds-p-items-end c).Else-g-eq0).long
+
+pub loop-p-init : goal.loop-p-init
+loop-p-init c =
     let p = pay_in c.args.bytes.now in
-    let s = stage_of c.loop-i.state c.loop-i.plan c.loop-i.count (to_z w32 c.loop-i.total-bits) c.loop-i.moment c.loop-i.i in
-    let l = c.loop-i.invariant in
-    let e : 32 - c.loop-i.i ≡ suc (32 - (c.loop-i.i + 1)) = omega (arith, c.loop-i-test.true) in
-    staged-stopped (rw e at l.staged) (no-parts by_density p s (same-group c.requires l c.round-g.ensures) (omega (arith, c.if-g-eq0.true)))
+    let l = c.loop.invariant.going in
+    let g = group (goal.at.loop-p-init c).Else-g-eq0 in
+    let runs = runs-replay (round-runs by-density-fair l.staged.fits g.some) in
+    record {
+      working = working-begin l.staged.fits.jobs.ready.sound (rw (group-parts by_density p (stage_of c.loop.state c.loop.plan) g.same) runs) l.idle l.kept l.asked;
+      plan_is = simp add-zero;
+    }
 
-pub loop-k-init : goal.loop-k-init
-loop-k-init c =
-    let p = pay_in c.args.bytes.now in
-    let s = stage_of c.loop-i.state c.loop-i.plan c.loop-i.count (to_z w32 c.loop-i.total-bits) c.loop-i.moment c.loop-i.i in
-    let l = c.loop-i.invariant in
-    let g = grouped c.requires l c.round-g.ensures (omega (arith, c.if-g-eq0.false)) in
-    working-begin l.staged.fits.jobs.ready.sound (rw (group-parts by_density p s g.same) (runs-replay (round-runs by-density-fair l.staged.fits g.some))) l.idle l.kept l.asked
-
--- ---- a turn of the inner loop: part k of the group
-pub offset_bounds-parts-k : goal.offset_bounds-parts-k
-offset_bounds-parts-k c =
-    let g = grouped c.requires c.loop-i.invariant c.round-g.ensures (omega (arith, c.if-g-eq0.false)) in
-    record { fits = omega (arith, g.join.few, c.loop-k-test.true) }
-
-pub bounds-parts-k : goal.bounds-parts-k
-bounds-parts-k c =
-    let g = grouped c.requires c.loop-i.invariant c.round-g.ensures (omega (arith, c.if-g-eq0.false)) in
-    omega (arith, g.join.few, c.loop-k-test.true)
-
-pub offset_bounds-state-number : goal.offset_bounds-state-number
-offset_bounds-state-number c =
-    let g = grouped c.requires c.loop-i.invariant c.round-g.ensures (omega (arith, c.if-g-eq0.false)) in
-    let below : (get_or c.round-g.result.parts c.loop-k.k no_part).job < 32 = g.join.jobs.below c.loop-k.k c.loop-k-test.true in
-    record { fits = omega (arith, c.wide-number.ensures, below) }
-
-pub offset_bounds-state-number-in-loop-k : goal.offset_bounds-state-number-in-loop-k
-offset_bounds-state-number-in-loop-k c =
-    let g = grouped c.requires c.loop-i.invariant c.round-g.ensures (omega (arith, c.if-g-eq0.false)) in
-    let below : (get_or c.round-g.result.parts c.loop-k.k no_part).job < 32 = g.join.jobs.below c.loop-k.k c.loop-k-test.true in
-    record { fits = omega (arith, c.wide-number.ensures, below) }
-
+-- ---- a turn of the inner loop: a part of the group
 pub bounds-state-number : goal.bounds-state-number
-bounds-state-number c =
-    let g = grouped c.requires c.loop-i.invariant c.round-g.ensures (omega (arith, c.if-g-eq0.false)) in
-    let below : (get_or c.round-g.result.parts c.loop-k.k no_part).job < 32 = g.join.jobs.below c.loop-k.k c.loop-k-test.true in
-    omega (arith, c.wide-number.ensures, below)
+bounds-state-number c = omega (arith, c.from-number.ensures, named (goal.at.bounds-state-number c).Else-g-eq0 c.loop-p.p-index c.loop-p-test.true)
 
-pub bounds-state-number-in-loop-k : goal.bounds-state-number-in-loop-k
-bounds-state-number-in-loop-k c =
-    let g = grouped c.requires c.loop-i.invariant c.round-g.ensures (omega (arith, c.if-g-eq0.false)) in
-    let below : (get_or c.round-g.result.parts c.loop-k.k no_part).job < 32 = g.join.jobs.below c.loop-k.k c.loop-k-test.true in
-    omega (arith, c.wide-number.ensures, below)
+pub bounds-state-number-in-loop-p : goal.bounds-state-number-in-loop-p
+bounds-state-number-in-loop-p c = omega (arith, c.from-number.ensures, named (goal.at.bounds-state-number-in-loop-p c).Else-g-eq0 c.loop-p.p-index c.loop-p-test.true)
 
-pub put_worked-asking-requires : goal.put_worked-asking-requires
-put_worked-asking-requires c =
-    let g = grouped c.requires c.loop-i.invariant c.round-g.ensures (omega (arith, c.if-g-eq0.false)) in
-    let below : (get_or c.round-g.result.parts c.loop-k.k no_part).job < 32 = g.join.jobs.below c.loop-k.k c.loop-k-test.true in
-    let w = c.loop-k.invariant in
-    working-rework w _ below (worked-by c.loop-k.state.jobs (get_or c.round-g.result.parts c.loop-k.k no_part) below w.sound.size c.wide-number.ensures c.worked_job-new.ensures)
+pub put_worked-requires : goal.put_worked-requires
+put_worked-requires c =
+    let below = named (goal.at.put_worked-requires c).Else-g-eq0 c.loop-p.p-index c.loop-p-test.true in
+    let w = c.loop-p.invariant.working in
+    working-rework w _ below (worked-by c.loop-p.state.jobs _ below w.sound.size c.from-number.ensures c.worked_job-new.ensures)
 
-pub overflow_add-plan : goal.overflow_add-plan
-overflow_add-plan c =
-    let g = grouped c.requires c.loop-i.invariant c.round-g.ensures (omega (arith, c.if-g-eq0.false)) in
-    let room : c.loop-i.count + c.loop-k.k < 96 = omega (arith, g.join.room, c.loop-k-test.true) in
-    record { fits = omega (arith, room) }
+pub bounds-plan-plan : goal.bounds-plan-plan
+bounds-plan-plan c =
+    let g = group (goal.at.bounds-plan-plan c).Else-g-eq0 in
+    omega (arith, g.join.room, g.long, (numbers c.loop-p.invariant.plan_is).0, c.loop-p-test.true)
 
-pub offset_bounds-plan-count : goal.offset_bounds-plan-count
-offset_bounds-plan-count c =
-    let g = grouped c.requires c.loop-i.invariant c.round-g.ensures (omega (arith, c.if-g-eq0.false)) in
-    let room : c.loop-i.count + c.loop-k.k < 96 = omega (arith, g.join.room, c.loop-k-test.true) in
-    record { fits = omega (arith, room) }
-
-pub bounds-plan-count : goal.bounds-plan-count
-bounds-plan-count c =
-    let g = grouped c.requires c.loop-i.invariant c.round-g.ensures (omega (arith, c.if-g-eq0.false)) in
-    let room : c.loop-i.count + c.loop-k.k < 96 = omega (arith, g.join.room, c.loop-k-test.true) in
-    omega (arith, room)
-
-pub loop-k-preserved : goal.loop-k-preserved
-loop-k-preserved c =
-    let g = grouped c.requires c.loop-i.invariant c.round-g.ensures (omega (arith, c.if-g-eq0.false)) in
-    let below : (get_or c.round-g.result.parts c.loop-k.k no_part).job < 32 = g.join.jobs.below c.loop-k.k c.loop-k-test.true in
-    let more : c.loop-k.k < length (take c.round-g.result.count c.round-g.result.parts) = omega (arith, g.long, c.loop-k-test.true) in
-    let w = c.loop-k.invariant in
-    let same = sym (get_or-take c.round-g.result.count c.round-g.result.parts c.loop-k.k no_part c.loop-k-test.true) in
-    working-next w more same
-    (made c.loop-k.state (get_or c.round-g.result.parts c.loop-k.k no_part) below w.sound.size c.wide-number.ensures c.worked_job-new.ensures c.holders_after-handed.ensures c.put_worked-asking.ensures.0)
-    c.put_worked-asking.ensures.1
+pub loop-p-preserved : goal.loop-p-preserved
+loop-p-preserved c =
+    let below = named (goal.at.loop-p-preserved c).Else-g-eq0 c.loop-p.p-index c.loop-p-test.true in
+    let w = c.loop-p.invariant.working in
+    let e = c.loop-p.invariant.plan_is in
+    let part = made c.loop-p.state _ below w.sound.size c.from-number.ensures c.worked_job-new.ensures c.holders_after-state.ensures c.put_worked.ensures.row in
+    record {
+      working = rw (numbers e).0 (working-next w c.loop-p-test.true refl part c.put_worked.ensures.list);
+      plan_is =
+          let set_at = λ (x : PlanParts). let y : PlanParts = record x { parts = set c.loop-p.plan.parts c.loop-p.plan.count (get_or (take c.round-g.result.count c.round-g.result.parts) c.loop-p.p-index no_part); count = x.count + 1 } in y in
+          rw (← add_assoc c.loop.plan.count c.loop-p.p-index 1) (ap set_at e);
+    }
 
 -- ---- the group is joined to the plan
-pub overflow_add-count : goal.overflow_add-count
-overflow_add-count c =
-    let g = grouped c.requires c.loop-i.invariant c.round-g.ensures (omega (arith, c.if-g-eq0.false)) in
-    record { fits = omega (arith, g.join.room) }
+pub sum-requires : goal.sum-requires
+sum-requires c =
+    let g = group (goal.at.sum-requires c).Else-g-eq0 in
+    (rw ((numbers c.loop-p.invariant.plan_is).2, g.total) g.join.total, rw g.gain g.join.gain)
 
-pub sum-total-requires : goal.sum-total-requires
-sum-total-requires c =
-    let g = grouped c.requires c.loop-i.invariant c.round-g.ensures (omega (arith, c.if-g-eq0.false)) in
-    (g.join.total, rw g.gain g.join.gain)
+pub overflow_add-plan-in-loop-2 : goal.overflow_add-plan-in-loop-2
+overflow_add-plan-in-loop-2 c =
+    let g = group (goal.at.overflow_add-plan-in-loop-2 c).Else-g-eq0 in
+    record { fits = omega (arith, g.join.moment, g.join.time, (numbers c.loop-p.invariant.plan_is).3) }
 
-pub overflow_add-moment : goal.overflow_add-moment
-overflow_add-moment c =
-    let g = grouped c.requires c.loop-i.invariant c.round-g.ensures (omega (arith, c.if-g-eq0.false)) in
-    record { fits = omega (arith, g.join.moment, g.join.time) }
-
-pub loop-i-preserved : goal.loop-i-preserved
-loop-i-preserved c =
+pub loop-preserved : goal.loop-preserved
+loop-preserved c =
     let p = pay_in c.args.bytes.now in
-    let s = stage_of c.loop-i.state c.loop-i.plan c.loop-i.count (to_z w32 c.loop-i.total-bits) c.loop-i.moment c.loop-i.i in
-    let g = grouped c.requires c.loop-i.invariant c.round-g.ensures (omega (arith, c.if-g-eq0.false)) in
-    let l = c.loop-i.invariant in
-    let w = c.loop-k.invariant in
-    let done = working-ended w (omega (arith, g.long, c.loop-k-test.false)) in
-    let one_more : 32 - c.loop-i.i ≡ suc (32 - (c.loop-i.i + 1)) = omega (arith, c.loop-i-test.true) in
-    let total : to_z w32 (of_z w32 c.sum-total.result) ≡ to_z w32 c.loop-i.total-bits +ℤ c.round-g.result.course.gain = to_z-of_z {w = w32} {z = c.sum-total.result} (search rules) ∙ (rw g.gain at c.sum-total.ensures) in
-    let joined = round-joined by_density p s g.same done.0 done.1 total in
+    let g = group (goal.at.loop-preserved c).Else-g-eq0 in
+    let l = c.loop.invariant.going in
+    let w = c.loop-p.invariant.working in
+    let same = numbers c.loop-p.invariant.plan_is in
+    let done = working-ended w c.loop-p-test.false in
+    let count : c.loop-p.plan.count ≡ c.loop.plan.count + c.round-g.result.count = omega (arith, g.long, same.0, c.loop-p-test.false) in
+    let total : to_z w32 (of_z w32 c.sum.result) ≡ c.loop.plan.total +ℤ c.round-g.result.course.gain = to_z-of_z {w = w32} {z = c.sum.result} (search rules) ∙ (rw (same.2, g.total, g.gain) at c.sum.ensures) in
+    let joined = round-joined by_density p (stage_of c.loop.state c.loop.plan) g.same done.0 done.1 total in
     record {
-      within = omega (arith, c.loop-i-test.true);
-      staged = staged-next (rw one_more at l.staged) by-density-fair g.some joined;
-      reached = reached-next c.args.bytes.now (opening c.args.start c.args.t) c.loop-i.i l.reached g.some joined;
-      idle = w.idle;
-      kept = w.kept;
-      asked = w.asked;
+      going = rw (count, same.1, same.3) (record {
+        within = omega (arith, c.loop-test.true);
+        staged = staged-next (rw (one-less c.loop.counter (omega arith)) at l.staged) by-density-fair g.some joined;
+        reached = reached-next c.args.bytes.now (opening c.args.start c.args.t) c.loop.counter l.reached g.some joined;
+        idle = w.idle;
+        kept = w.kept;
+        asked = w.asked;
+      });
+      counted = omega (arith, same.1, c.loop.invariant.counted);
     }
 
 pub returns : goal.returns
 returns c =
-    let e : 32 - c.loop-i.i ≡ 0 = omega (arith, c.loop-i-test.false) in
-    staged-ended (rw e at c.loop-i.invariant.staged)
+    let all : c.loop.counter ≡ 32 = omega (arith, c.loop-test.false) in
+    staged-ended (rw all at c.loop.invariant.going.staged)

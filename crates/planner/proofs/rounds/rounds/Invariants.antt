@@ -1,10 +1,8 @@
-use Prim.Native.Nat.{ℕ, ◌-◌}
-use mathlib.Core.List.{List}
-use lib.IntN.{ℤ}
-use lib.ListN.{take}
-use Rattle.gus.specs.declared.Part.{Part}
+use Prim.Native.Nat.{◌+◌}
+use mathlib.Core.Path.{◌≡◌}
 use Rattle.gus.specs.Choice.{by_density}
 use Rattle.gus.specs.Round.{rounds}
+use Rattle.planner.specs.declared.PlanParts.{PlanParts}
 use Rattle.planner.specs.declared.State.{State}
 use Rattle.planner.specs.Stage.{Stage, opening}
 use Rattle.planner.specs.Shown.{pay_in}
@@ -12,19 +10,17 @@ use Rattle.planner.specs.Working.{Going, Working}
 use Rattle.planner.proofs.rounds.rounds.Given as goal
 
 -- the stage that the locals make
-abbrev pub stage_of : State → List Part → ℕ → ℤ → ℕ → ℕ → Stage
-stage_of state plan count total moment i = record { state = state; parts = plan; count = count; rounds = i; total = total; moment = moment }
+abbrev pub stage_of : State → PlanParts → Stage
+stage_of state plan = record { state = state; parts = plan.parts; count = plan.count; rounds = plan.rounds; total = plan.total; moment = plan.moment }
 
-abbrev pub invariant-loop-k : goal.invariant-loop-k
-invariant-loop-k l =
-    Working l.bytes l.n (take l.g.count l.parts) l.initial.state l.initial.plan l.count l.state l.askers l.asking l.plan l.k
+abbrev pub invariant-loop-p : goal.invariant-loop-p
+invariant-loop-p l = record {
+  working : Working l.bytes l.n l.p-items l.initial.state l.initial.plan.parts l.initial.plan.count l.state l.asking.list l.asking.count l.plan.parts l.p-index;
+  plan_is : l.plan ≡ record l.initial.plan { parts = l.plan.parts; count = l.initial.plan.count + l.p-index };
+}
 
-abbrev pub decreases-loop-k : goal.decreases-loop-k
-decreases-loop-k l = l.g.count - l.k
-
-abbrev pub invariant-loop-i : goal.invariant-loop-i
-invariant-loop-i l =
-    Going l.bytes l.n (rounds 32 by_density (pay_in l.bytes) l.initial.state.jobs l.t) (opening l.initial.state l.t) (stage_of l.state l.plan l.count l.total l.moment l.i) l.askers l.asking l.i
-
-abbrev pub decreases-loop-i : goal.decreases-loop-i
-decreases-loop-i l = 32 - l.i
+abbrev pub invariant-loop : goal.invariant-loop
+invariant-loop l = record {
+  going : Going l.bytes l.n (rounds 32 by_density (pay_in l.bytes) l.initial.state.jobs l.t) (opening l.initial.state l.t) (stage_of l.state l.plan) l.asking.list l.asking.count l.counter;
+  counted : l.plan.rounds ≡ l.counter;
+}

@@ -1,9 +1,0 @@
--- `planner::keep::put_worked` meets its contract: the own row, and then the rows of who asks.
-use Rattle.planner.specs.Askers.{sheet-reworked, askers-left}
-use Rattle.planner.proofs.keep.put_worked.Goals as goal
-
-pub returns : goal.returns
-returns c =
-    let w = c.requires in
-    let own = rw c.wide-row.ensures at c.put_own.ensures in
-    (sheet-reworked w own c.relink.ensures, askers-left w own c.relink.ensures)

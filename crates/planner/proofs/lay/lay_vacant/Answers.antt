@@ -1,7 +1,0 @@
--- `planner::lay::lay_vacant` meets its contract.
-use Rattle.planner.specs.RowLaid.{vacant_row}
-use Rattle.planner.proofs.lay.lay_vacant.Goals as goal
-
-pub returns : goal.returns
-unfolding vacant_row
-returns c = rw (c.put-2.ensures, c.put.ensures)
