@@ -21,7 +21,7 @@ use Rattle.gus.specs.Plan.{answer_to}
 use Rattle.laws.specs.Count.{upto}
 use Rattle.laws.specs.Fill.{padded}
 use Rattle.opening.specs.Start.{held_from, job_from}
-use Rattle.planner.specs.declared.FirstPart.{FirstPart}
+use Rattle.planner.specs.Plans.{FirstPart}
 use Rattle.planner.specs.Planned.{laid_plan, refused_plan, answered_to, planned_to, planned_of}
 use Rattle.planner.specs.First.{first_in, refused_first, nothing, found, first-planned}
 use Rattle.ilhuepatl.specs.Calls.{word, part_word, first_word}

@@ -1,36 +1,21 @@
 // The line of the plan call into a lent output.
-ghost use Rattle.std.specs.Prelude.{◌<◌};
-
-use crate::print;
+use crate::print::{Hex, Refused};
 use std::io;
 use std::io::Write;
 
-pub(crate) fn wide(n: u8) -> usize
-    ensures { result < 256 }
-{
-    n as usize
-}
-
 // An answer begins with its length.
-fn length_field(bytes: &[u8]) -> usize {
-    if bytes.len() < 2 {
-        return 0;
-    }
-    wide(bytes[0]) * 256 + wide(bytes[1])
+fn answer(space: &[u8]) -> &[u8] {
+    let Some(field) = space.first_chunk::<2>() else {
+        return b"";
+    };
+    let length = u16::from_be_bytes(*field);
+    space.get(..usize::from(length)).unwrap_or(b"")
 }
 
-fn answer(out: &mut impl Write, bytes: &[u8]) -> io::Result<()> {
-    print::text(out, b" answer ")?;
-    print::part(out, bytes, 0, length_field(bytes))?;
-    print::text(out, b"\n")
-}
-
-pub(crate) fn answer_line(out: &mut impl Write, index: u64, book: &[u8]) -> io::Result<()> {
+pub(crate) fn answer_line(out: &mut impl Write, index: usize, book: &[u8]) -> io::Result<()> {
     let mut space = [0u8; 430];
-    let v = ilhuepatl::calls::plan_bytes(book, &mut space);
-    print::number(out, index)?;
-    if 0 < v.number {
-        return print::refused(out, v.number, v.place);
+    match ilhuepatl::calls::plan_bytes(book, &mut space) {
+        Ok(()) => writeln!(out, "{index} answer {}", Hex(answer(&space))),
+        Err(refusal) => writeln!(out, "{index} {}", Refused(refusal)),
     }
-    answer(out, &space)
 }

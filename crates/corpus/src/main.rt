@@ -2,6 +2,9 @@
 // In the file `books` each book stands behind its byte count (2 bytes), so that damaged books can stand there too.
 #![tactic(auto)]
 
+ghost use Rattle.std.specs.Prelude.{length};
+ghost use Rattle.std.specs.Iterator.{at_most};
+
 mod answer;
 mod first;
 mod listing;
@@ -10,7 +13,6 @@ mod record;
 mod row;
 mod worth;
 
-use crate::answer::wide;
 use input::read_full;
 use std::fs::File;
 use std::io;
@@ -20,7 +22,7 @@ use std::io::Write;
 const MOST: usize = 65536;
 
 // The record question is asked for job 0, 1, 2, 3, 4, 0 and so on.
-fn book_lines(out: &mut impl Write, index: u64, bytes: &[u8]) -> io::Result<()> {
+fn book_lines(out: &mut impl Write, index: usize, bytes: &[u8]) -> io::Result<()> {
     answer::answer_line(out, index, bytes)?;
     row::row_line(out, index, bytes)?;
     record::record_line(out, index, bytes)?;
@@ -31,19 +33,27 @@ fn book_lines(out: &mut impl Write, index: u64, bytes: &[u8]) -> io::Result<()> 
     first::first_text(out, bytes)
 }
 
+// The books behind one another; one that is cut is none.
+#[derive(Clone, Copy)]
+struct Books<'a>(&'a [u8]);
+
+impl<'a> Iterator for Books<'a> {
+    type Item = &'a [u8];
+
+    ghost remaining = { λ s. at_most (length s.0.now) };
+
+    fn next(&mut self) -> Option<&'a [u8]> {
+        let (size, rest) = self.0.split_first_chunk::<2>()?;
+        let size = u16::from_be_bytes(*size);
+        let (book, later) = rest.split_at_checked(usize::from(size))?;
+        self.0 = later;
+        Some(book)
+    }
+}
+
 fn lines(out: &mut impl Write, all: &[u8]) -> io::Result<()> {
-    let mut place: usize = 0;
-    let mut index: u64 = 0;
-    while 2 <= all.len() - place {
-        let n = wide(all[place]) * 256 + wide(all[place + 1]);
-        let start = place + 2;
-        if all.len() - start < n {
-            return Ok(());
-        }
-        let end = start + n;
-        book_lines(out, index, &all[start..end])?;
-        place = end;
-        index = index.wrapping_add(1);
+    for (index, book) in Books(all).enumerate() {
+        book_lines(out, index, book)?;
     }
     Ok(())
 }

@@ -1,47 +1,37 @@
-// Text, numbers and bytes on the output.
-use std::io;
-use std::io::Write;
+// What several lines print alike.
+use cursor::Refusal;
+use gus::Part;
+use std::fmt;
 
-pub(crate) fn text(out: &mut impl Write, s: &[u8]) -> io::Result<()> {
-    out.write_all(s)
-}
+// Two digits a byte.
+#[derive(Clone, Copy)]
+pub(crate) struct Hex<'a>(pub(crate) &'a [u8]);
 
-pub(crate) fn number(out: &mut impl Write, n: u64) -> io::Result<()> {
-    write!(out, "{n}")
-}
-
-// A number that may be below zero.
-pub(crate) fn signed(out: &mut impl Write, n: i32) -> io::Result<()> {
-    write!(out, "{n}")
-}
-
-fn byte(out: &mut impl Write, n: u8) -> io::Result<()> {
-    write!(out, "{n:02x}")
-}
-
-pub(crate) fn hex(out: &mut impl Write, s: &[u8]) -> io::Result<()> {
-    for n in s {
-        byte(out, *n)?;
+impl fmt::Display for Hex<'_> {
+    fn fmt<W: fmt::Write>(&self, f: &mut fmt::Formatter<W>) -> fmt::Result {
+        for byte in self.0 {
+            write!(f, "{byte:02x}")?;
+        }
+        Ok(())
     }
-    Ok(())
 }
 
-// The bytes from start to end in hex; nothing where they are no part of s.
-pub(crate) fn part(out: &mut impl Write, s: &[u8], start: usize, end: usize) -> io::Result<()> {
-    if start <= end && end <= s.len() {
-        hex(out, &s[start..end])?;
+// Job, mode and time, the mode as in the book.
+#[derive(Clone, Copy)]
+pub(crate) struct Fields(pub(crate) Part);
+
+impl fmt::Display for Fields {
+    fn fmt<W: fmt::Write>(&self, f: &mut fmt::Formatter<W>) -> fmt::Result {
+        let mode = u8::from(self.0.rolling);
+        write!(f, "{} {mode} {}", self.0.job, self.0.time)
     }
-    Ok(())
 }
 
-// The first n bytes as they are; nothing where s has fewer.
-pub(crate) fn start(out: &mut impl Write, s: &[u8], n: usize) -> io::Result<()> {
-    if n <= s.len() {
-        text(out, &s[0..n])?;
+#[derive(Clone, Copy)]
+pub(crate) struct Refused(pub(crate) Refusal);
+
+impl fmt::Display for Refused {
+    fn fmt<W: fmt::Write>(&self, f: &mut fmt::Formatter<W>) -> fmt::Result {
+        write!(f, "refused {} at {}", self.0.number, self.0.place)
     }
-    Ok(())
-}
-
-pub(crate) fn refused(out: &mut impl Write, code: u8, place: usize) -> io::Result<()> {
-    writeln!(out, " refused {code} at {place}")
 }

@@ -1,26 +1,22 @@
 // The line of the record question.
-use crate::print;
+use crate::print::{Hex, Refused};
 use std::io;
 use std::io::Write;
 
 // The record's bytes; none is empty.
 fn record(out: &mut impl Write, part: &[u8]) -> io::Result<()> {
-    if part.len() == 0 {
-        return print::text(out, b" none\n");
+    if part.is_empty() {
+        return writeln!(out, " none");
     }
-    print::text(out, b" ")?;
-    print::hex(out, part)?;
-    print::text(out, b"\n")
+    let bytes = Hex(part);
+    writeln!(out, " {bytes}")
 }
 
-pub(crate) fn record_line(out: &mut impl Write, index: u64, bytes: &[u8]) -> io::Result<()> {
+pub(crate) fn record_line(out: &mut impl Write, index: usize, bytes: &[u8]) -> io::Result<()> {
     let job = index % 5;
-    let f = book::question::find_record(bytes, job as usize);
-    print::number(out, index)?;
-    print::text(out, b" record ")?;
-    print::number(out, job)?;
-    if 0 < f.number {
-        return print::refused(out, f.number, f.place);
+    write!(out, "{index} record {job}")?;
+    match book::question::find_record(bytes, job) {
+        Ok(_) => record(out, book::question::record_part(bytes, job)),
+        Err(refusal) => writeln!(out, " {}", Refused(refusal)),
     }
-    record(out, book::question::record_part(bytes, job as usize))
 }

@@ -1,61 +1,35 @@
 // The line of the call that fills a row of part records.
-use crate::print;
+use crate::print::{Fields, Refused};
 use gus::Part;
 use ilhuepatl::row::RowAnswer;
 use std::io;
 use std::io::Write;
 
-fn victims(out: &mut impl Write, list: [u8; 32], count: usize) -> io::Result<()> {
-    print::text(out, b" victims")?;
-    for job in list.iter().take(count) {
-        print::text(out, b" ")?;
-        print::number(out, *job as u64)?;
+fn victims(out: &mut impl Write, a: &RowAnswer) -> io::Result<()> {
+    write!(out, " victims")?;
+    for job in a.victims.iter().take(a.victimcount) {
+        write!(out, " {job}")?;
     }
     Ok(())
 }
 
-fn mode(out: &mut impl Write, rolling: bool) -> io::Result<()> {
-    if rolling {
-        print::text(out, b" 1 ")
-    } else {
-        print::text(out, b" 0 ")
-    }
-}
-
-pub(crate) fn part(out: &mut impl Write, p: Part) -> io::Result<()> {
-    print::text(out, b" ")?;
-    print::number(out, p.job as u64)?;
-    mode(out, p.rolling)?;
-    print::number(out, p.time as u64)
-}
-
-fn parts(out: &mut impl Write, list: [Part; 96], count: usize) -> io::Result<()> {
-    print::text(out, b" parts")?;
-    for p in list.iter().take(count) {
-        part(out, *p)?;
+fn parts(out: &mut impl Write, row: &[Part], count: usize) -> io::Result<()> {
+    write!(out, " parts")?;
+    for p in row.iter().take(count) {
+        let fields = Fields(*p);
+        write!(out, " {fields}")?;
     }
     Ok(())
 }
 
-fn close(out: &mut impl Write, a: RowAnswer) -> io::Result<()> {
-    print::text(out, b" rounds ")?;
-    print::number(out, a.rounds as u64)?;
-    print::text(out, b" total ")?;
-    print::signed(out, a.total)?;
-    print::text(out, b" end ")?;
-    print::number(out, a.end as u64)?;
-    print::text(out, b"\n")
-}
-
-pub(crate) fn row_line(out: &mut impl Write, index: u64, book: &[u8]) -> io::Result<()> {
+pub(crate) fn row_line(out: &mut impl Write, index: usize, book: &[u8]) -> io::Result<()> {
     let laid = ilhuepatl::row::plan_parts(book);
-    let a = laid.answer;
-    print::number(out, index)?;
-    print::text(out, b" row")?;
-    if 0 < a.number {
-        return print::refused(out, a.number, a.place);
-    }
-    victims(out, a.victims, a.victimcount)?;
-    parts(out, laid.parts, a.count)?;
-    close(out, a)
+    write!(out, "{index} row")?;
+    let a = match laid.answer {
+        Ok(answer) => answer,
+        Err(refusal) => return writeln!(out, " {}", Refused(refusal)),
+    };
+    victims(out, &a)?;
+    parts(out, &laid.parts, a.count)?;
+    writeln!(out, " rounds {} total {} end {}", a.rounds, a.total, a.end)
 }

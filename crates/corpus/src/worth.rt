@@ -1,114 +1,54 @@
 // The line of the worth call: a part of the book, asked about at five moments, in the numbers that C gets.
-use crate::print;
+use book::Span;
 use cursor::field::value_at;
 use std::io;
 use std::io::Write;
 
-// As the call takes it; the last moment there is for a later one.
-fn moment(t: usize) -> u32 {
-    if t < 4294967296 {
-        return t as u32;
+// 0 where the bytes end before.
+fn moment(curve: &[u8], place: usize) -> u32 {
+    u32::try_from(value_at(curve, place, 4)).unwrap_or(u32::MAX)
+}
+
+// The first start stands after the piece count, and a curve ends with its termination. For a later moment than there is stands the last one.
+fn words(out: &mut impl Write, curve: &[u8]) -> io::Result<()> {
+    let first = moment(curve, 1);
+    let last = moment(curve, curve.len().saturating_sub(4));
+    let halfway = first.midpoint(last);
+    for t in [
+        first.saturating_sub(1),
+        first,
+        halfway,
+        last,
+        last.saturating_add(1),
+    ] {
+        let word = ilhuepatl::calls::ilhuepatl_worth(curve, t);
+        write!(out, " {word}")?;
     }
-    4294967295
-}
-
-fn before(n: usize) -> usize {
-    if 1 <= n {
-        return n - 1;
-    }
-    0
-}
-
-fn after(n: usize) -> usize {
-    if n < 4294967296 {
-        return n + 1;
-    }
-    n
-}
-
-fn halfway(a: usize, b: usize) -> usize {
-    if a < 4294967296 {
-        if b < 4294967296 {
-            return (a + b) / 2;
-        }
-    }
-    0
-}
-
-// A curve ends with its termination.
-fn last_field(part: &[u8]) -> usize {
-    if 4 <= part.len() {
-        return value_at(part, part.len() - 4, 4);
-    }
-    0
-}
-
-fn word(out: &mut impl Write, part: &[u8], t: usize) -> io::Result<()> {
-    let n = ilhuepatl::calls::ilhuepatl_worth(part, moment(t));
-    print::text(out, b" ")?;
-    print::number(out, n)
-}
-
-// The first start stands after the piece count.
-fn words(out: &mut impl Write, part: &[u8]) -> io::Result<()> {
-    let first = value_at(part, 1, 4);
-    let last = last_field(part);
-    word(out, part, before(first))?;
-    word(out, part, first)?;
-    word(out, part, halfway(first, last))?;
-    word(out, part, last)?;
-    word(out, part, after(last))?;
-    print::text(out, b"\n")
-}
-
-// Of the bytes from start to end; of none where those are no part of the book.
-fn part_words(out: &mut impl Write, bytes: &[u8], start: usize, end: usize) -> io::Result<()> {
-    if start <= end && end <= bytes.len() {
-        words(out, &bytes[start..end])
-    } else {
-        words(out, b"")
-    }
+    writeln!(out)
 }
 
 // Where the curve begins in the record at start: after the held count and 5 bytes for each hold.
 fn curve_place(bytes: &[u8], start: usize) -> usize {
-    if start < 65536 {
-        let holds = value_at(bytes, start + 10, 1);
-        if holds < 256 {
-            return start + 11 + 5 * holds;
-        }
-    }
-    0
+    let holds = value_at(bytes, start.saturating_add(10), 1);
+    start.saturating_add(11 + 5 * holds)
 }
 
 // One third each: the whole curve, all but its last byte, and the curve with all that stands after it.
-fn curve_words(
-    out: &mut impl Write,
-    index: u64,
-    bytes: &[u8],
-    start: usize,
-    end: usize,
-) -> io::Result<()> {
-    let first = curve_place(bytes, start);
-    let third = index % 3;
-    if third == 0 {
-        return part_words(out, bytes, first, end);
-    }
-    if third == 1 {
-        return part_words(out, bytes, first, before(end));
-    }
-    part_words(out, bytes, first, bytes.len())
+fn curve_of(index: usize, bytes: &[u8], record: Span) -> &[u8] {
+    let first = curve_place(bytes, record.start);
+    let last = match index % 3 {
+        0 => record.end,
+        1 => record.end.saturating_sub(1),
+        _ => bytes.len(),
+    };
+    bytes.get(first..last).unwrap_or(b"")
 }
 
 // The curve of the job whose record the book's record line has. A book without that record is itself taken for a curve, from some byte on.
-pub(crate) fn worth_line(out: &mut impl Write, index: u64, bytes: &[u8]) -> io::Result<()> {
-    let job = index % 5;
-    let f = book::question::find_record(bytes, job as usize);
-    print::number(out, index)?;
-    print::text(out, b" worth")?;
-    if 0 < f.end {
-        return curve_words(out, index, bytes, f.start, f.end);
+pub(crate) fn worth_line(out: &mut impl Write, index: usize, bytes: &[u8]) -> io::Result<()> {
+    write!(out, "{index} worth")?;
+    match book::question::find_record(bytes, index % 5) {
+        Ok(Some(span)) => words(out, curve_of(index, bytes, span)),
+        _ => words(out, bytes.get(index % 16..).unwrap_or(b"")),
     }
-    let start = index % 16;
-    part_words(out, bytes, start as usize, bytes.len())
 }

@@ -2,7 +2,7 @@
 use Rattle.std.specs.Prelude.{cond, List, [], ◌∷◌, ◌++◌, ℕ, ◌+◌, ◌-◌, ◌*◌, ◌/◌, ◌%◌, ℤ, take}
 use Rattle.laws.specs.Signed.{up, dn}
 use Rattle.gus.specs.declared.Part.{Part}
-use Rattle.planner.specs.declared.Planned.{Planned}
+use Rattle.planner.specs.Plans.{Planned}
 
 -- the n bytes of a number, the most significant first
 unfoldable pub two : ℕ → List ℕ

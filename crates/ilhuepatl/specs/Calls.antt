@@ -1,16 +1,12 @@
 -- What the public calls answer, verdict and lent bytes together (01, "The answer", "What a refusal says").
-use Rattle.std.specs.Prelude.{true, false, cond, List, ℕ, ◌+◌, ◌*◌, ◌%◌, ltb, length}
+use Rattle.std.specs.Prelude.{true, false, cond, List, ℕ, ◌+◌, ◌*◌, ◌%◌, ltb, length, ℤ, Option, None, Some}
 use Rattle.laws.specs.Stores.{over}
 use Rattle.cursor.specs.Refusal.{ROOM}
-use Rattle.curve.specs.declared.Worth.{Worth}
-use Rattle.curve.specs.declared.Worth.TheVariants.{None, Of}
-use Rattle.book.specs.declared.question.Found.{Found}
-use Rattle.book.specs.declared.worth.CurveWorth.{CurveWorth}
+use Rattle.book.specs.Read.{Found, CurveWorth}
 use Rattle.gus.specs.declared.Part.{Part}
-use Rattle.planner.specs.declared.Planned.{Planned}
-use Rattle.planner.specs.declared.FirstPart.{FirstPart}
+use Rattle.planner.specs.Plans.{Planned, FirstPart}
 use Rattle.planner.specs.Planned.{planned_of}
-use Rattle.ilhuepatl.specs.declared.Verdict.{Verdict}
+use Rattle.ilhuepatl.specs.Verdict.{Verdict}
 use Rattle.ilhuepatl.specs.Answer.{bits, answer_bytes}
 
 pub record Outcome : Type 0 where
@@ -62,9 +58,9 @@ first_word f =
 
 -- a worth in 32 bits, for C. A worth is at most a million away from 0, so that most numbers below 2 ^ 32 are no worth's; the one farthest from
 -- all of them, 2 ^ 31, is none (R-7)
-abbrev pub worth_bits : Worth → ℕ
+abbrev pub worth_bits : Option ℤ → ℕ
 worth_bits None = 2147483648
-worth_bits (Of z) = bits z
+worth_bits (Some z) = bits z
 
 -- a curve's worth in one number, for C: a refusal as above, or the worth
 unfoldable pub word_of_worth : CurveWorth → ℕ

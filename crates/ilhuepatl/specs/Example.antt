@@ -2,7 +2,7 @@
 use Rattle.std.specs.Prelude.{true, false, List, [], ◌∷◌, ◌++◌, ◌≡◌, refl, ℕ, ◌-◌, ℤ, pos, negsuc, length, replicate}
 use Rattle.gus.specs.declared.Part.{Part}
 use Rattle.gus.specs.Group.{part_of}
-use Rattle.planner.specs.declared.Planned.{Planned}
+use Rattle.planner.specs.Plans.{Planned}
 use Rattle.ilhuepatl.specs.Answer.{two, four, bits, part_bytes, parts_bytes, answer_bytes}
 
 abbrev planned : List ℕ → List Part → ℕ → ℤ → ℕ → Planned

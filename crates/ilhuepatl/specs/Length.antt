@@ -1,7 +1,7 @@
 -- How long the answer is: 14 bytes, one more for each victim and four more for each part, so at most 430.
 use Rattle.std.specs.Prelude.{◌≡◌, refl, ℕ, ◌+◌, ◌*◌, ◌≤◌, length, take}
 use Rattle.std.proofs.Common.{arith, length-append, length-take-le}
-use Rattle.planner.specs.declared.Planned.{Planned}
+use Rattle.planner.specs.Plans.{Planned}
 use Rattle.ilhuepatl.specs.Answer.{two, four, parts_bytes, answer_bytes}
 use Rattle.ilhuepatl.specs.Parts.{parts-length}
 

@@ -1,3 +1,4 @@
+pub mod Verdict
 pub mod Answer
 pub mod Parts
 pub mod Length

@@ -6,14 +6,12 @@ use Rattle.std.proofs.Math.Bool.{true, false}
 use Rattle.laws.specs.Stores.{over}
 use Rattle.cursor.specs.Refusal.{ROOM}
 use Rattle.curve.specs.Worth.{amount}
-use Rattle.book.specs.declared.question.Found.{Found}
-use Rattle.book.specs.declared.worth.CurveWorth.{CurveWorth}
+use Rattle.book.specs.Read.{Found, CurveWorth}
 use Rattle.book.specs.CurveWorth.{curve_worth}
 use Rattle.accepted.proofs.CurveBytes.{worth-alone-small}
-use Rattle.planner.specs.declared.Planned.{Planned}
-use Rattle.planner.specs.declared.FirstPart.{FirstPart}
+use Rattle.planner.specs.Plans.{Planned, FirstPart}
 use Rattle.planner.specs.Planned.{planned_of}
-use Rattle.ilhuepatl.specs.declared.Verdict.{Verdict}
+use Rattle.ilhuepatl.specs.Verdict.{Verdict}
 use Rattle.ilhuepatl.specs.Answer.{answer_bytes}
 use Rattle.ilhuepatl.specs.Calls.{Outcome, verdict_of, by_plan, outcome_of, word, record_word, part_word, first_word, worth_bits, word_of_worth}
 

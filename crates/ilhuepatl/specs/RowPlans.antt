@@ -4,13 +4,18 @@ use Rattle.std.proofs.Common.{sym, subst, ◌∙◌, arith, lt-ltb, le-ltb, ltb-
 use Rattle.std.proofs.Math.Path.{ap}
 use Rattle.cursor.specs.Refusal.{ROOM}
 use Rattle.gus.specs.declared.Part.{Part}
-use Rattle.planner.specs.declared.Planned.{Planned}
+use Rattle.planner.specs.Plans.{Planned}
 use Rattle.planner.specs.LaidOut.{empty_part}
 use Rattle.planner.specs.Planned.{planned_of}
 use Rattle.planner.specs.Counted.{counted}
-use Rattle.ilhuepatl.specs.declared.row.RowPlan.{RowPlan}
 use Rattle.laws.specs.Stores.{over}
-use Rattle.ilhuepatl.specs.Rows.{RowOutcome, refused_answer, other_fields, by_plan, row_outcome_of}
+use Rattle.ilhuepatl.specs.Rows.{RowFields, RowOutcome, refused_answer, other_fields, by_plan, row_outcome_of}
+
+-- the answer's fields, and what goes into the row: parts 0 .. filled
+pub record RowPlan : Type 0 where
+  pub answer : RowFields
+  pub parts : List Part
+  pub filled : ℕ
 
 -- a refusal puts no part into the row
 abbrev pub refused_row : ℕ → ℕ → RowPlan

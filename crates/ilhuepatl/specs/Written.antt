@@ -5,7 +5,7 @@ use Rattle.std.proofs.Common.{◌∙◌, arith}
 use mathlib.Core.List.{List, ◌∷◌, ◌++◌}
 use Rattle.std.proofs.Math.ListN.{length, length-append}
 use Rattle.std.proofs.Math.Seq.{sets}
-use Rattle.planner.specs.declared.Planned.{Planned}
+use Rattle.planner.specs.Plans.{Planned}
 use Rattle.ilhuepatl.specs.Answer.{two, four, bits, parts_bytes, answer_bytes}
 use Rattle.ilhuepatl.specs.Length.{Within, two-length, victims-length, taken-length, answer-fits}
 use Rattle.laws.specs.Stores.{over, then-sets, over-sets}

@@ -1,14 +1,17 @@
 // The public calls.
 #![tactic(auto)]
 
+use cursor::Refusal;
+use cursor::field::ROOM;
+
 mod answer;
 pub mod calls;
 mod number;
 mod part;
 pub mod row;
 
-#[derive(Clone, Copy)]
-pub struct Verdict {
-    pub number: u8,
-    pub place: usize,
-}
+// What is lent has too little room.
+const NO_ROOM: Refusal = Refusal {
+    number: ROOM,
+    place: 0,
+};

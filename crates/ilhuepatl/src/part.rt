@@ -1,47 +1,34 @@
 // Parts as bytes in a lent output, and one part as a number.
-ghost use Rattle.std.specs.Prelude.{◌≡◌, cond, ◌∷◌, ◌+◌, ◌*◌, ◌≤◌, length, take};
-ghost use Rattle.std.proofs.lemmas.List.Edits.{sets};
+ghost use Rattle.std.specs.Prelude.{◌≡◌, ◌∷◌, ◌+◌, ◌*◌, ◌≤◌, length};
+ghost use Rattle.laws.specs.Stores.{over};
 ghost use Rattle.ilhuepatl.specs.Answer.{part_bytes, parts_bytes};
 ghost use Rattle.ilhuepatl.specs.Calls.{part_word};
 
-use crate::number;
 use gus::Part;
-
-// "mode 1 as in the book": 0 normal, 1 rollback
-fn mode_of(rolling: bool) -> u8
-    ensures { result ≡ cond rolling 1 0 }
-{
-    if rolling { 1 } else { 0 }
-}
 
 // Job, mode and time from the top down, for C.
 pub(crate) fn part_word(p: Part) -> u64
     ensures { result ≡ part_word p }
 {
-    let mode = mode_of(p.rolling) as u64;
-    let job = p.job as u64;
-    job * 16777216 + mode * 65536 + p.time as u64
+    u64::from(p.job) * 16777216 + u64::from(p.rolling) * 65536 + u64::from(p.time)
 }
 
-fn put_part(out: &mut [u8], at: usize, p: Part)
-    requires { at + 4 ≤ length out.old }
-    ensures { out.new ≡ sets out.old at (part_bytes p) }
+// "mode 1 as in the book": 0 normal, 1 rollback
+fn bytes_of(p: Part) -> [u8; 4]
+    ensures { result ≡ part_bytes p }
 {
-    out[at] = p.job;
-    out[at + 1] = mode_of(p.rolling);
-    number::put_two(out, at + 2, p.time);
+    let [high, low] = p.time.to_be_bytes();
+    [p.job, u8::from(p.rolling), high, low]
 }
 
 // The part count and the parts.
-pub(crate) fn put_parts(out: &mut [u8], at: usize, parts: [Part; 96], count: usize)
-    requires { (count ≤ 96) × (at + 1 + 4 * count ≤ length out.old) }
-    ensures { out.new ≡ sets out.old at (count ∷ parts_bytes (take count parts)) }
+pub(crate) fn put_parts(out: &mut [u8], parts: &[Part])
+    requires { (length parts.now ≤ 255) × (1 + 4 * length parts.now ≤ length out.old) }
+    ensures { out.new ≡ over (length parts.now ∷ parts_bytes parts.now) out.old }
 {
-    out[at] = count as u8;
-    let mut i: usize = 0;
-    while i < count {
-        let p = parts[i];
-        put_part(out, at + 1 + 4 * i, p);
-        i += 1;
+    out[0] = parts.len() as u8;
+    for (i, p) in parts.iter().enumerate() {
+        let at = 1 + 4 * i;
+        out[at..at + 4].copy_from_slice(&bytes_of(*p));
     }
 }

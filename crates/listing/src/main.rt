@@ -2,7 +2,7 @@
 // `--first` as its one argument, the text of the plan's first part (02, R-2). Both are proved text.
 #![tactic(auto)]
 
-ghost use Rattle.std.specs.Prelude.{◌≡◌, ◌≤◌, length, take, cond};
+ghost use Rattle.std.specs.Prelude.{◌≡◌, ◌≤◌, length, cond};
 ghost use Rattle.text.specs.Listing.{listing_outcome};
 ghost use Rattle.text.specs.First.{first_outcome};
 
@@ -18,14 +18,13 @@ const MOST: usize = 65536;
 // The text that is asked for, and how many bytes it has.
 fn write_text(first: bool, book: &[u8], out: &mut [u8]) -> usize
     ensures value { (result ≡ (cond first (first_outcome book.now out.old) (listing_outcome book.now out.old)).listed.length) × (out.new ≡ (cond first (first_outcome book.now out.old) (listing_outcome book.now out.old)).out) }
-    ensures prefix_len { (result ≤ length out.new) × (result ≡ length (take result out.new)) }
+    ensures within { result ≤ length out.new }
 {
     if first {
-        let r = text::first::write_first(book, out);
-        return r.length;
+        text::first::write_first(book, out).unwrap_or(0)
+    } else {
+        text::listing::write_listing(book, out).unwrap_or(0)
     }
-    let r = text::listing::write_listing(book, out);
-    r.length
 }
 
 fn print_text(rt: &(impl Input + Print), first: bool) -> io::Result<()> {

@@ -2,140 +2,101 @@
 // The table is the file `books`, to be read beside 01; the file stdout was written from 01.
 #![tactic(auto)]
 
-ghost use Rattle.std.specs.Prelude.{◌≤◌, length};
+ghost use Rattle.std.specs.Prelude.{◌<◌, IfSome};
 
 use book::judge::judge;
 use book::question::{find_record, record_part};
+use cursor::Refusal;
 use input::read_full;
 use std::fs::File;
-use std::io;
 use std::io::Write;
+use std::{fmt, io};
 
 // How many bytes of the table are read at most.
 const MOST: usize = 65536;
 
 #[derive(Clone, Copy)]
-pub struct Bytes {
-    pub room: [u8; 128],
-    pub size: usize,
-}
+struct Refused(Refusal);
 
-fn say(out: &mut impl Write, word: &str, number: u64) -> io::Result<()> {
-    write!(out, "{word}{number}")
-}
-
-fn hex(out: &mut impl Write, byte: u8) -> io::Result<()> {
-    write!(out, "{byte:02x}")
-}
-
-fn refused(out: &mut impl Write, number: u8, place: usize) -> io::Result<()> {
-    say(out, "refused ", number as u64)?;
-    say(out, " at ", place as u64)
+impl fmt::Display for Refused {
+    fn fmt<W: fmt::Write>(&self, f: &mut fmt::Formatter<W>) -> fmt::Result {
+        write!(f, "refused {} at {}", self.0.number, self.0.place)
+    }
 }
 
 fn read(out: &mut impl Write, book: &[u8]) -> io::Result<()> {
-    let b = judge(book);
-    if 0 < b.number {
-        refused(out, b.number, b.place)
-    } else {
-        say(out, "accepted ", b.jobs as u64)?;
-        write!(out, " jobs")
+    match judge(book) {
+        Ok(judged) => write!(out, "accepted {} jobs", judged.jobs),
+        Err(refusal) => write!(out, "{}", Refused(refusal)),
     }
 }
 
 fn ask(out: &mut impl Write, book: &[u8], job: usize) -> io::Result<()> {
-    let f = find_record(book, job);
-    if 0 < f.number {
-        return refused(out, f.number, f.place);
+    if let Err(refusal) = find_record(book, job) {
+        return write!(out, "{}", Refused(refusal));
     }
     let part = record_part(book, job);
-    if part.len() == 0 {
+    if part.is_empty() {
         write!(out, "none")?;
     }
     for byte in part {
-        hex(out, *byte)?;
+        write!(out, "{byte:02x}")?;
     }
     Ok(())
 }
 
-// The value of a hex digit, and 16 for any other character.
-fn digit(c: u8) -> u8
-    ensures { result ≤ 16 }
+// to_digit(16) would take the small letters of the table's words for digits too.
+fn digit(c: u8) -> Option<u8>
+    ensures { IfSome result (λ d. d < 16) }
 {
     match c {
-        b'0'..=b'9' => c - 48,
-        b'A'..=b'F' => c - 55,
-        _ => 16,
+        b'0'..=b'9' => Some(c - b'0'),
+        b'A'..=b'F' => Some(c - b'A' + 10),
+        _ => None,
     }
 }
 
 // Two digits a byte; what is no digit only parts the fields for the eye.
-fn bytes_of(line: &[u8]) -> Bytes
-    ensures { result.size ≤ length result.room }
-{
-    let mut room = [0u8; 128];
-    let mut digits: usize = 0;
-    for c in line {
-        let d = digit(*c);
-        if d < 16 && digits < 256 {
-            room[digits / 2] = room[digits / 2] % 16 * 16 + d;
-            digits += 1;
-        }
+fn bytes_of<'a>(line: &[u8], room: &'a mut [u8; 128]) -> &'a [u8] {
+    let mut digits = line.iter().filter_map(|c| digit(*c));
+    for (size, byte) in room.iter_mut().enumerate() {
+        let (Some(high), Some(low)) = (digits.next(), digits.next()) else {
+            return &room[..size];
+        };
+        *byte = high * 16 + low;
     }
-    Bytes {
-        room,
-        size: digits / 2,
-    }
-}
-
-// Where a mark stands first, or the end.
-fn find(s: &[u8], mark: u8) -> usize
-    ensures { result ≤ length s.now }
-{
-    for (i, byte) in s.iter().enumerate() {
-        if *byte == mark {
-            return i;
-        }
-    }
-    s.len()
+    room
 }
 
 // Behind an @ the first byte is the job that the record question asks for.
-fn answer(out: &mut impl Write, bytes: Bytes, asked: bool) -> io::Result<()>
-    requires { bytes.size ≤ length bytes.room }
-{
-    let room = bytes.room;
-    let n = bytes.size;
-    let job = room[0] as usize;
-    if asked {
-        if 0 < n {
-            ask(out, &room[1..n], job)?;
-        }
-        Ok(())
-    } else {
-        read(out, &room[0..n])
+fn answer(out: &mut impl Write, bytes: &[u8], asked: bool) -> io::Result<()> {
+    if !asked {
+        return read(out, bytes);
+    }
+    match bytes.split_first() {
+        Some((job, book)) => ask(out, book, usize::from(*job)),
+        None => Ok(()),
     }
 }
 
 // A line without a colon is a heading.
 fn row(out: &mut impl Write, line: &[u8]) -> io::Result<()> {
-    let colon = find(line, b':');
-    if colon < line.len() {
-        out.write_all(&line[0..colon])?;
-        write!(out, ": ")?;
-        let asked = find(line, b'@') < line.len();
-        answer(out, bytes_of(&line[colon..]), asked)?;
-        writeln!(out)?;
-    }
-    Ok(())
+    let Some(colon) = line.iter().position(|c| *c == b':') else {
+        return Ok(());
+    };
+    let (name, digits) = line.split_at(colon);
+    out.write_all(name)?;
+    write!(out, ": ")?;
+    let mut room = [0u8; 128];
+    answer(out, bytes_of(digits, &mut room), line.contains(&b'@'))?;
+    writeln!(out)
 }
 
+// What stands behind the last line break is no line.
 fn rows(out: &mut impl Write, all: &[u8]) -> io::Result<()> {
-    let mut start: usize = 0;
-    for (i, byte) in all.iter().enumerate() {
-        if *byte == b'\n' {
-            row(out, &all[start..i])?;
-            start = i + 1;
+    for line in all.split_inclusive(|c| *c == b'\n') {
+        if let Some(line) = line.strip_suffix(b"\n") {
+            row(out, line)?;
         }
     }
     Ok(())

@@ -3,7 +3,7 @@ use Rattle.std.specs.Prelude.{◌≡◌, refl}
 use Rattle.std.proofs.Common.{arith}
 use mathlib.Core.List.{List}
 use Prim.Native.Nat.{ℕ, ◌≤◌}
-use Rattle.book.specs.declared.Book.{Book}
+use Rattle.book.specs.Read.{Book}
 use Rattle.book.specs.Format.{book_of}
 use Rattle.accepted.specs.Good.{Good}
 use Rattle.accepted.proofs.Good.{accepted-good}

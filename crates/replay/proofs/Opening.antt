@@ -2,7 +2,7 @@
 use Rattle.std.specs.Prelude.{refl, List, [], ◌∷◌, ℕ, ◌<◌, ◌≤◌, pos, length, set}
 use Rattle.std.proofs.Common.{inl, inr, arith, length-set}
 use Rattle.job.specs.declared.Job.{Job}
-use Rattle.book.specs.declared.Book.{Book}
+use Rattle.book.specs.Read.{Book}
 use Rattle.accepted.specs.Good.{Good}
 use Rattle.gus.specs.State.{job_at}
 use Rattle.gus.specs.View.{Pay}

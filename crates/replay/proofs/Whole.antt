@@ -13,7 +13,7 @@ use Rattle.gus.specs.declared.Part.{Part}
 use Rattle.gus.specs.Choice.{by_density}
 use Rattle.gus.specs.Plan.{Answer, answer_to}
 use Rattle.opening.specs.Planned.{view_from, answer_from}
-use Rattle.planner.specs.declared.Planned.{Planned}
+use Rattle.planner.specs.Plans.{Planned}
 use Rattle.planner.specs.LaidOut.{empty_part}
 use Rattle.planner.specs.Planned.{laid_plan, planned_of}
 use Rattle.ilhuepatl.specs.Answer.{answer_bytes}

@@ -1,7 +1,7 @@
 -- What rests on specs/Words.antt.
 use Rattle.std.specs.Prelude.{◌≡◌, refl, true, false, cond, ◌↔◌, List, ℕ, zero, suc, ◌+◌, ◌*◌, ◌%◌, ◌<◌, ◌≤◌, length}
 use Rattle.std.proofs.Common.{sym, ap, ◌∙◌, inl, inr, arith}
-use Rattle.book.specs.declared.question.Found.{Found}
+use Rattle.book.specs.Read.{Found}
 use Rattle.book.specs.Format.{book_of}
 use Rattle.book.specs.Question.{found_in}
 use Rattle.accepted.specs.Layout.{Bytes}
@@ -12,10 +12,10 @@ use Rattle.gus.specs.declared.Part.{Part}
 use Rattle.cursor.specs.Refusal.{KNOT}
 use Rattle.opening.specs.Planned.{view_from, answer_from}
 use Rattle.opening.proofs.Opened.{accepted-opened}
-use Rattle.planner.specs.declared.FirstPart.{FirstPart}
+use Rattle.planner.specs.Plans.{FirstPart}
 use Rattle.planner.specs.Planned.{planned_of}
 use Rattle.planner.specs.First.{first_in}
-use Rattle.ilhuepatl.specs.declared.Verdict.{Verdict}
+use Rattle.ilhuepatl.specs.Verdict.{Verdict}
 use Rattle.ilhuepatl.specs.Calls.{verdict_of, outcome_of, word, record_word, part_word, first_word}
 use Rattle.ilhuepatl.specs.Outcomes.{word-refused, word-found, first-refused, first-answered}
 use Rattle.replay.specs.Sentences.{part_at}

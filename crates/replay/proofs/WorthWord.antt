@@ -6,7 +6,7 @@ use Rattle.accepted.specs.Layout.{Bytes}
 use Rattle.accepted.specs.Reach.{worth-near}
 use Rattle.accepted.specs.CurveBytes.{AloneKept}
 use Rattle.accepted.proofs.CurveBytes.{curve-exactly, worth-alone, worth-alone-small}
-use Rattle.ilhuepatl.specs.declared.Verdict.{Verdict}
+use Rattle.ilhuepatl.specs.Verdict.{Verdict}
 use Rattle.ilhuepatl.specs.Calls.{verdict_of, word, worth_bits, word_of_worth}
 use Rattle.ilhuepatl.specs.Outcomes.{worth-refused, worth-told}
 use Rattle.replay.specs.Words.{word_number, word-place}

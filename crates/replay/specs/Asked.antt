@@ -2,7 +2,7 @@
 use Rattle.std.specs.Prelude.{◌≡◌, refl, ◌↔◌, List, ℕ, ◌<◌, ◌≤◌}
 use Rattle.std.proofs.Common.{inl, inr, arith, lt-ltb, le-ltb}
 use Rattle.laws.specs.Search.{lt-or-le}
-use Rattle.book.specs.declared.question.Found.{Found}
+use Rattle.book.specs.Read.{Found}
 use Rattle.book.specs.Format.{empty_span, book_of}
 use Rattle.book.specs.Question.{found_at, found_in}
 use Rattle.accepted.specs.Layout.{Bytes}

@@ -3,7 +3,7 @@ use Rattle.std.proofs.Common.{inl, inr, arith}
 use Prim.Native.Nat.{ℕ, ◌<◌, ◌≤◌}
 use Rattle.laws.specs.Search.{lt-or-le}
 use Rattle.laws.specs.Circle.{circle-in}
-use Rattle.book.specs.declared.Book.{Book}
+use Rattle.book.specs.Read.{Book}
 use Rattle.accepted.specs.Good.{Good}
 use Rattle.gus.specs.Choice.{Way}
 use Rattle.gus.specs.Victims.{victims_of, knot_of}

@@ -3,13 +3,13 @@
 use Rattle.std.specs.Prelude.{◌≡◌, refl, true, false, List, [], ◌∷◌, ℕ, pos, nat_abs, replicate}
 use Rattle.std.proofs.Common.{ap, true≢false, arith}
 use Rattle.laws.specs.Count.{upto}
-use Rattle.curve.specs.declared.Curve.{Curve}
+use Rattle.curve.specs.Curve.{Curve}
 use Rattle.curve.specs.Worth.{no_piece, worth_in, worth_at}
 use Rattle.curve.specs.Density.{denser_than}
 use Rattle.job.specs.declared.Request.{Request}
 use Rattle.job.specs.Job.{granted, ran, rolled_back}
 use Rattle.book.specs.declared.Entry.{Entry}
-use Rattle.book.specs.declared.Book.{Book}
+use Rattle.book.specs.Read.{Book}
 use Rattle.cursor.specs.Field.{field_of, rule_of, read_at, judged, value_at}
 use Rattle.curve.specs.Layout.{signed_of}
 use Rattle.book.specs.Rules.{rollback_ok, request_ok, if_requested, least_rollback, mode_ok, around_ok, line_ok}
@@ -25,7 +25,7 @@ use Rattle.gus.specs.Victims.{circle_from, circle_of, loss_of, lesser, offer, vi
 use Rattle.gus.specs.Plan.{answer_to}
 use Rattle.opening.specs.Start.{held_from, job_from}
 use Rattle.opening.specs.Planned.{view_from, answer_from}
-use Rattle.ilhuepatl.specs.declared.Verdict.{Verdict}
+use Rattle.ilhuepatl.specs.Verdict.{Verdict}
 use Rattle.ilhuepatl.specs.Calls.{outcome_of}
 use Rattle.replay.specs.Machine.{MachineJob, Machine, nothing, with_victims, machine_from, with_request, still_held, earnings, follow}
 use Rattle.replay.specs.View.{lists, hold_on, holder_from as machine_holder, view_of_machine}

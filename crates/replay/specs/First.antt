@@ -5,8 +5,7 @@ use Rattle.book.specs.Format.{book_of}
 use Rattle.gus.specs.declared.Part.{Part}
 use Rattle.gus.specs.Choice.{by_density}
 use Rattle.opening.specs.Planned.{answer_from}
-use Rattle.planner.specs.declared.Planned.{Planned}
-use Rattle.planner.specs.declared.FirstPart.{FirstPart}
+use Rattle.planner.specs.Plans.{Planned, FirstPart}
 use Rattle.planner.specs.Planned.{planned_of}
 use Rattle.planner.specs.First.{first_in, refused_first, nothing, found, first_of, refused-first, laid-first}
 use Rattle.planner.specs.Ends.{knot_in, Ends, refuses, knots, answers, ends}

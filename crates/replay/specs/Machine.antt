@@ -1,15 +1,12 @@
 -- THE BARE MACHINE of demand 3: it follows any list of parts and checks none.
 -- It knows the clock and, of each job, the times left, the request, the holds and the curve. Of the planner it has only the parts;
 -- the never mark and the rest of 01 that it needs stand here once more.
-use Rattle.std.specs.Prelude.{Bool, true, false, cond, ◌&&◌, ◌||◌, List, [], ◌∷◌, map, ℕ, ◌+◌, ◌-◌, eqb, ltb, ℤ, pos, ◌+ℤ◌, get_or, set, take}
-use Rattle.curve.specs.declared.Curve.{Curve}
-use Rattle.curve.specs.declared.Worth.{Worth}
-use Rattle.curve.specs.declared.Worth.TheVariants.{Of}
+use Rattle.std.specs.Prelude.{Bool, true, false, cond, ◌&&◌, ◌||◌, List, [], ◌∷◌, map, ℕ, ◌+◌, ◌-◌, eqb, ltb, ℤ, pos, ◌+ℤ◌, get_or, set, take, Option, Some}
+use Rattle.curve.specs.Curve.{Curve}
 use Rattle.curve.specs.Worth.{worth_at, defined, amount}
 use Rattle.job.specs.declared.Request.{Request}
 use Rattle.book.specs.declared.Entry.{Entry}
-use Rattle.book.specs.declared.Record.{Record}
-use Rattle.book.specs.declared.Book.{Book}
+use Rattle.book.specs.Read.{Record, Book}
 use Rattle.book.specs.Format.{empty_record}
 use Rattle.gus.specs.declared.Part.{Part}
 
@@ -125,13 +122,13 @@ time_left true j = j.rollback
 time_left false j = j.run
 
 -- what finishing it in that mode is worth at a moment: normally what its curve says, and none outside it; rollback 0 at any time
-abbrev pub finish_worth : Bool → MachineJob → ℕ → Worth
-finish_worth true j moment = Of (pos 0)
+abbrev pub finish_worth : Bool → MachineJob → ℕ → Option ℤ
+finish_worth true j moment = Some (pos 0)
 finish_worth false j moment = worth_at j.curve moment
 
 -- A FINISH: a part after which its job has no time left in the part's mode. It earns what it is worth at that moment, or none; any other 0.
-unfoldable pub earnings : Bool → MachineJob → ℕ → Worth
-earnings rolling j moment = cond (eqb (time_left rolling j) 0) (finish_worth rolling j moment) (Of (pos 0))
+unfoldable pub earnings : Bool → MachineJob → ℕ → Option ℤ
+earnings rolling j moment = cond (eqb (time_left rolling j) 0) (finish_worth rolling j moment) (Some (pos 0))
 
 -- ONE PART: its job is changed, its time passes, and a finish is paid, or counted where it can't be. Nothing is refused: a part of a job
 -- that is not there changes no job and can't be paid; what is not left is not taken; a finished job that runs is paid again; never counts

@@ -5,7 +5,7 @@ use Rattle.std.proofs.lemmas.List.{length-map}
 use Rattle.std.proofs.Math.ListN.{get_or-map, get_or-eq_default}
 use Rattle.laws.specs.Search.{lt-or-le}
 use Rattle.job.specs.declared.Job.{Job}
-use Rattle.book.specs.declared.Book.{Book}
+use Rattle.book.specs.Read.{Book}
 use Rattle.book.specs.Format.{empty_record}
 use Rattle.accepted.specs.Good.{record_of, Good}
 use Rattle.gus.specs.Victims.{sent_back}

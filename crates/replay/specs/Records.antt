@@ -5,7 +5,7 @@ use Rattle.std.proofs.Common.{◌∙◌, not-suc-le-zero, arith, get_or-take, le
 use Rattle.std.proofs.Math.Logic.{inl, inr}
 use Rattle.job.specs.Job.{hold_of, rollback_of}
 use Rattle.book.specs.declared.Entry.{Entry}
-use Rattle.book.specs.declared.Record.{Record}
+use Rattle.book.specs.Read.{Record}
 use Rattle.book.specs.Format.{no_entry, empty_record}
 use Rattle.opening.specs.Start.{job_from}
 use Rattle.opening.specs.Held.{entry_at, Apart, Names, named-or-free}

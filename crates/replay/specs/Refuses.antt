@@ -15,9 +15,9 @@ use Rattle.invariants.specs.Knot.{Knotted}
 use Rattle.invariants.proofs.Knot.{knot-is}
 use Rattle.invariants.proofs.KnotExactly.{knot-exactly}
 use Rattle.opening.specs.Planned.{view_from}
-use Rattle.planner.specs.declared.Planned.{Planned}
+use Rattle.planner.specs.Plans.{Planned}
 use Rattle.planner.specs.Planned.{laid_plan, refused_plan, planned_of}
-use Rattle.ilhuepatl.specs.declared.Verdict.{Verdict}
+use Rattle.ilhuepatl.specs.Verdict.{Verdict}
 use Rattle.ilhuepatl.specs.Calls.{verdict_of, by_plan, outcome_of}
 use Rattle.ilhuepatl.specs.Rows.{row_outcome_of, by_plan as by_row_plan}
 use Rattle.planner.specs.Ends.{knot_in, Ends, refuses, knots, answers, ends}

@@ -6,7 +6,7 @@ use Rattle.laws.specs.Search.{lt-or-le}
 use Rattle.cursor.specs.Refusal.{KNOT}
 use Rattle.gus.specs.declared.Part.{Part}
 use Rattle.gus.specs.Choice.{by_density}
-use Rattle.planner.specs.declared.Planned.{Planned}
+use Rattle.planner.specs.Plans.{Planned}
 use Rattle.planner.specs.Planned.{laid_plan, planned_of}
 use Rattle.ilhuepatl.specs.Calls.{Outcome, by_plan, outcome_of}
 use Rattle.ilhuepatl.specs.Rows.{RowOutcome, row_outcome_of, by_plan as by_row_plan}

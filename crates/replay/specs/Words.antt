@@ -1,7 +1,7 @@
 -- THE NUMBER THAT C GETS: what it says, and that nothing of it is lost.
 use Rattle.std.specs.Prelude.{◌≡◌, refl, Bool, true, false, cond, ◌↔◌, List, [], ◌∷◌, ℕ, ◌+◌, ◌*◌, ◌/◌, ◌%◌, ◌<◌, ◌≤◌, length}
 use Rattle.std.proofs.Common.{arith}
-use Rattle.book.specs.declared.question.Found.{Found}
+use Rattle.book.specs.Read.{Found}
 use Rattle.book.specs.Format.{book_of}
 use Rattle.accepted.specs.Layout.{Bytes, two_bytes, jobs_at}
 use Rattle.accepted.specs.Kept.{BookKept}
@@ -10,8 +10,8 @@ use Rattle.accepted.specs.Reach.{refusal-near}
 use Rattle.invariants.proofs.KnotExactly.{knot-exactly}
 use Rattle.gus.specs.declared.Part.{Part}
 use Rattle.opening.specs.Planned.{view_from, answer_from}
-use Rattle.planner.specs.declared.FirstPart.{FirstPart}
-use Rattle.ilhuepatl.specs.declared.Verdict.{Verdict}
+use Rattle.planner.specs.Plans.{FirstPart}
+use Rattle.ilhuepatl.specs.Verdict.{Verdict}
 use Rattle.ilhuepatl.specs.Calls.{verdict_of, outcome_of, word, record_word, part_word, first_word}
 use Rattle.planner.specs.Ends.{knot_in}
 use Rattle.replay.specs.Refuses.{KnottedIn, InTheWay, Clear, Given, small, reader, knot, none}

@@ -1,9 +1,11 @@
 pub mod Decimal
 pub mod Lines
+pub mod Listed
 pub mod Room
 pub mod Listing
 pub mod First
 pub mod Wrote
+pub mod Writer
 pub mod Digits
 pub mod Signs
 pub mod Loops

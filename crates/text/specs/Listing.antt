@@ -1,7 +1,7 @@
 -- The listing of a book, from its bytes, and what the call that writes it answers (01, "The answer").
 use Rattle.std.specs.Prelude.{List, ◌++◌, ℕ, take}
 use Rattle.book.specs.Format.{book_of}
-use Rattle.planner.specs.declared.Planned.{Planned}
+use Rattle.planner.specs.Plans.{Planned}
 use Rattle.planner.specs.Planned.{planned_of}
 use Rattle.text.specs.Lines.{victims_line, part_lines, close_line, unless_refused}
 use Rattle.text.specs.Room.{TextOutcome, outcome_with}

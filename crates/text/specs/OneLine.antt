@@ -3,7 +3,7 @@ use Rattle.std.specs.Prelude.{◌≡◌, refl, List, ◌++◌, ℕ, ◌+◌, ◌
 use Rattle.std.proofs.Common.{sym, ap, ◌∙◌, append_assoc, arith, length-append, lt-ltb, le-ltb}
 use Rattle.laws.specs.Fill.{padded}
 use Rattle.book.specs.Format.{book_of}
-use Rattle.planner.specs.declared.Planned.{Planned}
+use Rattle.planner.specs.Plans.{Planned}
 use Rattle.planner.specs.LaidOut.{empty_part}
 use Rattle.planner.specs.Planned.{laid_plan, refused_plan, planned_of}
 use Rattle.planner.specs.First.{first_in}

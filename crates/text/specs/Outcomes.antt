@@ -10,7 +10,7 @@ use Rattle.std.proofs.Math.ListN.{length}
 use borrow.Author.Tests.{lt-ltb, le-ltb, ltb-false}
 use Rattle.laws.specs.Stores.{over, over-sets}
 use Rattle.cursor.specs.Refusal.{ROOM}
-use Rattle.text.specs.declared.listing.Listed.{Listed}
+use Rattle.text.specs.Listed.{Listed}
 use Rattle.text.specs.Room.{TextOutcome, listed_as, outcome_with}
 use Rattle.text.specs.Wrote.{Wrote}
 

@@ -2,7 +2,7 @@
 use Rattle.std.specs.Prelude.{true, false, List, ℕ, ltb, length}
 use Rattle.laws.specs.Stores.{over}
 use Rattle.cursor.specs.Refusal.{ROOM}
-use Rattle.text.specs.declared.listing.Listed.{Listed}
+use Rattle.text.specs.Listed.{Listed}
 
 pub record TextOutcome : Type 0 where
   pub listed : Listed

@@ -2,14 +2,12 @@
 use Rattle.std.specs.Prelude.{◌≡◌, refl, Bool, true, false, cond, List, ℕ, ◌<◌, ◌≤◌, ltb}
 use Rattle.std.proofs.Math.Path.{sym, ap}
 use Rattle.std.proofs.Common.{◌∙◌, arith, lt-ltb, le-ltb, ltb-true}
-use Rattle.cursor.specs.declared.Reading.{Reading}
-use Rattle.cursor.specs.declared.Header.{Header}
+use Rattle.cursor.specs.Reading.{Reading, HeaderRead}
 use Rattle.cursor.specs.Header.{header_of}
-use Rattle.book.specs.declared.reader.Records.{Records}
+use Rattle.book.specs.Read.{Records}
 use Rattle.book.specs.Format.{records_read, tail_read, accepted_book, refused_book, book_of}
 use Rattle.gus.specs.declared.Part.{Part}
-use Rattle.planner.specs.declared.Planned.{Planned}
-use Rattle.planner.specs.declared.FirstPart.{FirstPart}
+use Rattle.planner.specs.Plans.{Planned, FirstPart}
 use Rattle.planner.specs.Planned.{refused_plan, planned_of}
 use Rattle.planner.specs.First.{first_in}
 use Rattle.text.specs.Lines.{part_line, refused_line, unless_refused}
@@ -31,7 +29,7 @@ accepted-now s h =
     let last = tail_read s b.reading in
     by top b last (ltb 0 last.number) refl h
   where
-    by : (top : Header) (b : Records) (last : Reading) (x : Bool) → ltb 0 last.number ≡ x → (cond x (refused_book last.number last.place) (accepted_book top b)).number ≤ 0 → (cond x (refused_book last.number last.place) (accepted_book top b)).now ≡ top.now
+    by : (top : HeaderRead) (b : Records) (last : Reading) (x : Bool) → ltb 0 last.number ≡ x → (cond x (refused_book last.number last.place) (accepted_book top b)).number ≤ 0 → (cond x (refused_book last.number last.place) (accepted_book top b)).now ≡ top.now
     by top b last true e l = absurd (omega (arith, ltb-true 0 last.number e))
     by top b last false e l = refl
 

@@ -6,7 +6,7 @@ use Rattle.book.specs.Format.{book_of}
 use Rattle.accepted.specs.Reach.{refusal-near}
 use Rattle.gus.specs.Choice.{by_density}
 use Rattle.opening.specs.Planned.{answer_from}
-use Rattle.planner.specs.declared.Planned.{Planned}
+use Rattle.planner.specs.Plans.{Planned}
 use Rattle.planner.specs.Planned.{laid_plan, refused_plan, planned_of}
 use Rattle.planner.specs.Ends.{knot_in, Ends, refuses, knots, answers, ends}
 

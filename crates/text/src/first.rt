@@ -1,40 +1,42 @@
 // The first part of a book's plan as text, in a lent output (02, R-2).
 ghost use Rattle.std.specs.Prelude.{◌≡◌, ◌≤◌, length};
+ghost use Rattle.planner.specs.Told.{first_book};
+ghost use Rattle.text.specs.Listed.{listed_told};
 ghost use Rattle.text.specs.First.{first_line, first_outcome};
 ghost use Rattle.text.specs.Wrote.{Wrote};
 
-use crate::line::{put_part, put_refused};
-use crate::listing::{Listed, answer, moment_of};
-use crate::word::put_bytes;
-use cursor::field::ROOM;
+use crate::NO_ROOM;
+use crate::line::put_refused;
+use crate::listing::moment_of;
+use crate::word::Writer;
+use cursor::Refusal;
 use gus::Part;
 use planner::first::first_part;
 
 // "the first part or nothing"
-fn put_first(out: &mut [u8], some: bool, part: Part, start: u64) -> usize
-    requires { length (first_line some part start) ≤ length out.old }
-    ensures { Wrote out.old 0 (first_line some part start) out.new result }
+#[tactic(auto, using(crate::proofs::Writer::steps), unfolding(crate::specs::Writer::after, crate::specs::Decimal::ascii, crate::specs::First::first_line, crate::specs::First::nothing_line))]
+fn put_first(out: &mut [u8], first: Option<Part>, start: u64) -> usize
+    requires { length (first_line (first_book first).some (first_book first).part start) ≤ length out.old }
+    ensures { Wrote out.old 0 (first_line (first_book first).some (first_book first).part start) out.new result }
 {
-    if some {
-        return put_part(out, 0, part, start);
+    let mut text = Writer::new(out);
+    match first {
+        Some(part) => text.part(part, start),
+        None => text.word(b"nothing\n"),
     }
-    put_bytes(out, 0, b"nothing\n")
+    text.at
 }
 
-// The text at the start of out, and later bytes as they were. A refused book is no refusal of this call: its line is the text.
-pub fn write_first(book: &[u8], out: &mut [u8]) -> Listed
-    ensures { record { listed = result; out = out.new } ≡ first_outcome book.now out.old }
+// The text at the start of out, and later bytes as they were; how long it is. A refused book is no refusal of this call: its line is the text.
+// ROOM is one, and then nothing is written.
+pub fn write_first(book: &[u8], out: &mut [u8]) -> Result<usize, Refusal>
+    ensures { (result ≡ listed_told (first_outcome book.now out.old).listed) × (out.new ≡ (first_outcome book.now out.old).out) }
 {
     if out.len() < 32 {
-        return answer(ROOM, 0);
+        return Err(NO_ROOM);
     }
-    let f = first_part(book);
-    if 0 < f.number {
-        let size = put_refused(out, 0, f.number, f.place);
-        return answer(0, size);
+    match first_part(book) {
+        Ok(first) => Ok(put_first(out, first, moment_of(book))),
+        Err(refusal) => Ok(put_refused(out, refusal)),
     }
-    let part = f.part;
-    let start = moment_of(book);
-    let length = put_first(out, f.some, part, start);
-    answer(0, length)
 }

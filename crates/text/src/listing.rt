@@ -1,66 +1,51 @@
 // The listing of a book in a lent output (01, "The answer").
 ghost use Rattle.std.specs.Prelude.{◌≡◌, ◌≤◌, length};
+ghost use Rattle.planner.specs.Told.{planned_book};
+ghost use Rattle.text.specs.Listed.{listed_told};
 ghost use Rattle.text.specs.Listing.{plan_text, listing_outcome};
-ghost use Rattle.text.specs.Room.{listed_as};
 ghost use Rattle.text.specs.Wrote.{Wrote};
 ghost use Rattle.text.specs.Texts.{Moment};
 
-use crate::line::{put_close, put_parts, put_refused, put_victims};
-use cursor::field::ROOM;
+use crate::NO_ROOM;
+use crate::line::put_refused;
+use crate::word::Writer;
+use cursor::Refusal;
 use cursor::head::header;
-use planner::Planned;
+use planner::BookPlan;
 use planner::plan::plan;
 
-// number and place: 0 and 0, or ROOM at 0, and then nothing is written. length: how many bytes the text has.
-#[derive(Clone, Copy)]
-pub struct Listed {
-    pub number: u8,
-    pub place: usize,
-    pub length: usize,
-}
-
-pub(crate) fn answer(number: u8, length: usize) -> Listed
-    ensures { result ≡ listed_as number length }
-{
-    Listed {
-        number,
-        place: 0,
-        length,
-    }
-}
-
-// The moment at which the first part starts.
+// The moment at which the first part starts; 0 where the header is refused.
 pub(crate) fn moment_of(s: &[u8]) -> u64
     ensures { Moment s.now result }
 {
-    let h = header(s);
-    h.now as u64
+    match header(s) {
+        Ok(h) => h.now as u64,
+        Err(_) => 0,
+    }
 }
 
-fn put_plan(out: &mut [u8], p: Planned, first: u64) -> usize
-    requires { (p.victimcount ≤ 32) × (p.count ≤ 96) × (first ≤ 4294967295) × (length (plan_text p first) ≤ length out.old) }
-    ensures { Wrote out.old 0 (plan_text p first) out.new result }
+#[tactic(auto, using(crate::proofs::Writer::steps), unfolding(crate::specs::Writer::after, crate::specs::Listing::plan_text))]
+fn put_plan(out: &mut [u8], p: &BookPlan, first: u64) -> usize
+    requires { (p.now.victimcount ≤ 32) × (p.now.count ≤ 96) × (first ≤ 4294967295) × (length (plan_text (planned_book p.now) first) ≤ length out.old) }
+    ensures { Wrote out.old 0 (plan_text (planned_book p.now) first) out.new result }
 {
-    let victims = p.victims;
-    let parts = p.parts;
-    let next = put_victims(out, 0, victims, p.victimcount);
-    let last = put_parts(out, next, parts, p.count, first);
-    put_close(out, last, p.total, p.end, p.rounds)
+    let mut text = Writer::new(out);
+    text.victims(&p.victims[..p.victimcount]);
+    text.parts(&p.parts[..p.count], first);
+    text.close(p.total, p.end, p.rounds);
+    text.at
 }
 
-// The text at the start of out, and later bytes as they were. A refused book is no refusal of this call: its line is the text.
-pub fn write_listing(book: &[u8], out: &mut [u8]) -> Listed
-    ensures { record { listed = result; out = out.new } ≡ listing_outcome book.now out.old }
+// The text at the start of out, and later bytes as they were; how long it is. A refused book is no refusal of this call: its line is the text.
+// ROOM is one, and then nothing is written.
+pub fn write_listing(book: &[u8], out: &mut [u8]) -> Result<usize, Refusal>
+    ensures { (result ≡ listed_told (listing_outcome book.now out.old).listed) × (out.new ≡ (listing_outcome book.now out.old).out) }
 {
     if out.len() < 4096 {
-        return answer(ROOM, 0);
+        return Err(NO_ROOM);
     }
-    let p = plan(book);
-    if 0 < p.number {
-        let size = put_refused(out, 0, p.number, p.place);
-        return answer(0, size);
+    match plan(book) {
+        Ok(p) => Ok(put_plan(out, &p, moment_of(book))),
+        Err(refusal) => Ok(put_refused(out, refusal)),
     }
-    let first = moment_of(book);
-    let length = put_plan(out, p, first);
-    answer(0, length)
 }

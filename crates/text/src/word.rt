@@ -1,48 +1,48 @@
-// Words and numbers as text in a lent output. Each function writes from place `at` on, and answers the place after its text.
-ghost use Rattle.std.specs.Prelude.{◌++◌, ◌+◌, ◌≤◌, length};
-ghost use Rattle.text.specs.Decimal.{decimal, signed};
-ghost use Rattle.text.specs.Wrote.{Wrote};
+// Words and numbers as text in a lent output, one after another.
+ghost use Rattle.std.specs.Prelude.{◌≡◌, ◌++◌};
+ghost use Rattle.text.specs.Writer.{Room, after};
 
-pub(crate) fn put_bytes(out: &mut [u8], at: usize, text: &[u8]) -> usize
-    requires { at + length text.now ≤ length out.old }
-    ensures { Wrote out.old at text.now out.new result }
-{
-    let mut i: usize = 0;
-    while i < text.len() {
-        out[at + i] = text[i];
-        i += 1;
-    }
-    at + i
+use itoa::{Buffer, Integer};
+
+// What was lent, and the place behind what is written.
+#[derive(Drop)]
+pub(crate) struct Writer<'a> {
+    pub(crate) out: &'a mut [u8],
+    pub(crate) at: usize,
 }
 
-pub(crate) fn put_number(out: &mut [u8], at: usize, v: u64) -> usize
-    requires { at + length (decimal v) ≤ length out.old }
-    ensures { Wrote out.old at (decimal v) out.new result }
-{
-    if v < 10 {
-        out[at] = 48 + v as u8;
-        return at + 1;
+impl<'a> Writer<'a> {
+    pub(crate) fn new(out: &'a mut [u8]) -> Writer<'a>
+        ensures { (result.out ≡ out.entry) × (result.at ≡ 0) }
+    {
+        Writer { out, at: 0 }
     }
-    let last = put_number(out, at, v / 10);
-    out[last] = 48 + (v % 10) as u8;
-    last + 1
-}
 
-// A word, and a number after it.
-pub(crate) fn put_field(out: &mut [u8], at: usize, word: &[u8], v: u64) -> usize
-    requires { at + length (word.now ++ decimal v) ≤ length out.old }
-    ensures { Wrote out.old at (word.now ++ decimal v) out.new result }
-{
-    let next = put_bytes(out, at, word);
-    put_number(out, next, v)
-}
-
-pub(crate) fn put_signed(out: &mut [u8], at: usize, v: i32) -> usize
-    requires { at + length (signed v) ≤ length out.old }
-    ensures { Wrote out.old at (signed v) out.new result }
-{
-    if v < 0 {
-        return put_field(out, at, b"-", (0 - (v as i64)) as u64);
+    pub(crate) fn word(&mut self, word: &[u8])
+        requires { Room self.old word.now }
+        ensures { self.new ≡ after self.old word.now }
+    {
+        let end = self.at + word.len();
+        self.out[self.at..end].copy_from_slice(word);
+        self.at = end;
     }
-    put_number(out, at, v as u64)
+
+    // write! can fail for all that it promises, and a call that writes a text can't.
+    pub(crate) fn number<I: Integer>(&mut self, n: I)
+        requires { Room self.old (I.text n) }
+        ensures { self.new ≡ after self.old (I.text n) }
+    {
+        let mut buffer = Buffer::new();
+        self.word(buffer.format(n).as_bytes());
+    }
+
+    // A word, and a number behind it.
+    #[tactic(auto, using(crate::proofs::Writer::steps))]
+    pub(crate) fn field<I: Integer>(&mut self, word: &[u8], n: I)
+        requires { Room self.old (word.now ++ I.text n) }
+        ensures { self.new ≡ after self.old (word.now ++ I.text n) }
+    {
+        self.word(word);
+        self.number(n);
+    }
 }
