@@ -5,6 +5,8 @@ ghost use Rattle.std.specs.Prelude.{◌≡◌};
 
 use job::{Held, Request};
 
+// The bytes and the place where a reader begins are two parameters and no struct: each call has another place, and 01 asks for a by-value reader.
+
 pub mod rules; // rules.rt: the rules that are more than a range
 pub mod request; // request.rt: rollback times and the request
 pub mod held; // held.rt: the held list

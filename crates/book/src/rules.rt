@@ -4,9 +4,9 @@ ghost use Rattle.book.specs.Rules.{rollback_ok, request_ok, if_requested, least_
 
 use curve::Piece;
 
-pub(crate) const NEVER: usize = 65535;
+const NEVER: usize = job::NEVER as usize;
 
-pub(crate) const NONE: usize = 255;
+const NONE: usize = 255;
 
 pub(crate) fn rollback_ok(v: usize) -> bool
     ensures { result ≡ rollback_ok v }

@@ -1,4 +1,4 @@
-// What several lines print alike.
+// What several lines print alike. `Refused` stands in the program `refusals` too: in a library its text would need a promise, and a program's has none.
 use cursor::Refusal;
 use gus::Part;
 use std::fmt;

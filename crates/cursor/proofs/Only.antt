@@ -20,6 +20,7 @@ use Rattle.std.specs.Prelude.{Result}
 use Rattle.cursor.specs.declared.FieldRead.{FieldRead}
 use Rattle.cursor.specs.declared.Refusal.{Refusal}
 use Rattle.cursor.specs.Step.{place_after}
+use Rattle.cursor.proofs.Says.{step_said}
 use Rattle.cursor.proofs.Both.{both}
 use Rattle.cursor.proofs.field.value_at.Kinds as value-at-kinds
 use Rattle.cursor.proofs.field.value_at.Reads as value-at
@@ -40,6 +41,11 @@ value-at-only κs s place n r r' e e' p q = p.0 ∙ sym q.0
 field-only : (κs : Lfts 1) (s : Bor (List ℕ)) (place n low high number : ℕ) (o o' : Result FieldRead Refusal) (e e' : AtExit (ended_of 1 field-kinds.ps field-kinds.r) κs)
     → field.Post κs (s, (place, (n, (low, (high, (number, tt)))))) o e → field.Post κs (s, (place, (n, (low, (high, (number, tt)))))) o' e' → o ≡ o'
 field-only κs s place n low high number o o' e e' p q = p ∙ sym q
+
+-- and so one step, as a reader that stood at the place makes it
+step-from-only : (κs : Lfts 1) (s : Bor (List ℕ)) (place n low high number : ℕ) (o o' : Result FieldRead Refusal) (e e' : AtExit (ended_of 1 field-kinds.ps field-kinds.r) κs)
+    → field.Post κs (s, (place, (n, (low, (high, (number, tt)))))) o e → field.Post κs (s, (place, (n, (low, (high, (number, tt)))))) o' e' → step_said place o ≡ step_said place o'
+step-from-only κs s place n low high number o o' e e' p q = ap (step_said place) (field-only κs s place n low high number o o' e e' p q)
 
 rule-only : (f : FieldRead) (ok : Bool) (number place : ℕ) (o o' : Result FieldRead Refusal) (e e' : AtExit (ended_of 0 rule-kinds.ps rule-kinds.r) tt)
     → rule.Post tt (f, (ok, (number, (place, tt)))) o e → rule.Post tt (f, (ok, (number, (place, tt)))) o' e' → o ≡ o'

@@ -20,6 +20,14 @@ pub struct Refusal {
     pub place: usize,
 }
 
+impl Refusal {
+    // What is lent has too little room.
+    pub const NO_ROOM: Refusal = Refusal {
+        number: field::ROOM,
+        place: 0,
+    };
+}
+
 // last: the last field that was read, now.
 #[derive(Clone, Copy, Debug, PartialEq, Eq)]
 pub struct Header {

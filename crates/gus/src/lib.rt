@@ -44,3 +44,12 @@ pub struct Best {
     pub last: u8,
     pub course: Course,
 }
+
+impl Best {
+    // None is taken yet.
+    pub const NONE: Best = Best {
+        some: false,
+        last: 0,
+        course: Course::START,
+    };
+}

@@ -8,9 +8,7 @@ ghost use Rattle.planner.specs.First.{first_in};
 ghost use Rattle.ilhuepatl.specs.Verdict.{verdict_told};
 ghost use Rattle.ilhuepatl.specs.Calls.{verdict_of, outcome_of, word, record_word, first_word, worth_bits, word_of_worth};
 
-use crate::NO_ROOM;
 use crate::answer::put_answer;
-use crate::number::bits_of;
 use crate::part::part_word;
 use book::question::find_record;
 use book::worth::worth_of_curve;
@@ -25,7 +23,7 @@ pub fn plan_bytes(book: &[u8], out: &mut [u8]) -> Result<(), Refusal>
     ensures { (result ≡ verdict_told (outcome_of book.now out.old).verdict) × (out.new ≡ (outcome_of book.now out.old).out) }
 {
     if out.len() < 430 {
-        return Err(NO_ROOM);
+        return Err(Refusal::NO_ROOM);
     }
     let p = plan(book)?;
     put_answer(&p, out);
@@ -77,7 +75,7 @@ fn worth_bits(worth: Option<i64>) -> u64
 {
     match worth {
         None => NO_WORTH,
-        Some(n) => u64::from(bits_of(n as i32)),
+        Some(n) => u64::from((n as i32).cast_unsigned()),
     }
 }
 

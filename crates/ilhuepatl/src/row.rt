@@ -3,7 +3,6 @@ ghost use Rattle.std.specs.Prelude.{◌≡◌, replicate};
 ghost use Rattle.planner.specs.LaidOut.{empty_part};
 ghost use Rattle.ilhuepatl.specs.Rows.{row_told, row_outcome_of};
 
-use crate::NO_ROOM;
 use cursor::Refusal;
 use gus::Part;
 use planner::plan::plan;
@@ -31,7 +30,7 @@ pub fn plan_row(book: &[u8], row: &mut [Part]) -> Result<RowAnswer, Refusal>
     ensures { (result ≡ row_told (row_outcome_of book.now row.old).answer) × (row.new ≡ (row_outcome_of book.now row.old).row) }
 {
     if row.len() < 96 {
-        return Err(NO_ROOM);
+        return Err(Refusal::NO_ROOM);
     }
     let p = plan(book)?;
     row[..p.count].copy_from_slice(&p.parts[..p.count]);

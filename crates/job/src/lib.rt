@@ -10,6 +10,9 @@ mod times;
 // Not held, no request and never are numbers and no `Option`: they are so in the book and in the definitions that the promises cite
 // (`free`, `no_request`, `never`).
 
+// The rollback time of what can't be rolled back.
+pub const NEVER: u16 = 65535;
+
 // What a job holds of one resource. It stands at the resource's number; hold 0: not held.
 #[derive(Clone, Copy)]
 pub struct Held {

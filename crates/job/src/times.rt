@@ -3,7 +3,7 @@
 ghost use Rattle.std.specs.Prelude.{◌≡◌};
 ghost use Rattle.job.specs.Times.{either_never, or_never};
 
-const NEVER: u16 = 65535;
+use crate::NEVER;
 
 pub(crate) fn either_never(a: u16, b: u16) -> bool
     ensures { result ≡ either_never a b }

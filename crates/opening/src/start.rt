@@ -20,6 +20,7 @@ pub fn open_jobs(s: &[u8], starts: &[usize; 33], jobs: usize) -> [Job; 32]
     ensures { result ≡ jobs_in s.now starts.now jobs }
 {
     let mut taken = [VACANT; 32];
+    // by index: after `iter_mut` with `zip` nothing is known of the elements
     for i in 0..jobs.min(32) {
         taken[i] = job_at(s, starts[i]);
     }

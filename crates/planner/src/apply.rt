@@ -4,7 +4,9 @@ ghost use Rattle.job.specs.Job.{worked};
 ghost use Rattle.invariants.specs.Holders.{holder_after};
 ghost use Rattle.planner.specs.Applied.{holders_after};
 
+use crate::circles::NOBODY;
 use job::{Held, Job};
+use std::array::from_fn;
 
 pub(crate) fn worked_job(j: Job, rolling: bool, time: u16) -> Job
     ensures { result ≡ worked rolling time j }
@@ -22,14 +24,11 @@ fn holder_after(job: u8, h: Held, holder: u8) -> u8
     if 0 < h.hold {
         return job;
     }
-    if holder == job { 255 } else { holder }
+    if holder == job { NOBODY } else { holder }
 }
 
-pub(crate) fn holders_after(mut holders: [u8; 32], job: u8, held: &[Held; 32]) -> [u8; 32]
+pub(crate) fn holders_after(holders: [u8; 32], job: u8, held: &[Held; 32]) -> [u8; 32]
     ensures { result ≡ holders_after job held.now holders }
 {
-    for (i, holder) in holders.iter_mut().enumerate() {
-        *holder = holder_after(job, held[i], *holder);
-    }
-    holders
+    from_fn(|r| holder_after(job, held[r], holders[r]))
 }

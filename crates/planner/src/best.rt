@@ -1,20 +1,8 @@
 // The choice of one job among several, by whatever test (V.1, VI.1).
 ghost use Rattle.std.specs.Prelude.{◌≡◌, cond};
-ghost use Rattle.gus.specs.Round.{no_best};
 ghost use Rattle.planner.specs.Picking.{picked};
 
 use gus::{Best, Course};
-
-// None is taken yet.
-pub(crate) fn no_best() -> Best
-    ensures { result ≡ no_best }
-{
-    Best {
-        some: false,
-        last: 0,
-        course: Course::START,
-    }
-}
 
 // One of two, as a move and not as a jump: which job wins is hard to foresee, and here it is asked for each job of each round.
 fn either<T: Copy>(first: bool, a: T, b: T) -> T

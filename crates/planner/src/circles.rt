@@ -37,8 +37,8 @@ impl Sheet {
         ensures { result ≡ circles_of (waits_in self.now) }
     {
         let mut found = [NOBODY; 32];
-        for job in 0..n {
-            found[job] = self.circle_of(job);
+        for (job, circle) in found[..n].iter_mut().enumerate() {
+            *circle = self.circle_of(job);
         }
         found
     }

@@ -23,7 +23,8 @@ pub fn first_part(bytes: &[u8]) -> Result<Option<Part>, Refusal>
         bytes,
         sheet: &sheet,
         moment: j.now,
+        jobs: j.jobs,
     };
-    let g = view.round(j.jobs);
+    let g = view.round();
     Ok(g.parts[..g.count].first().copied())
 }

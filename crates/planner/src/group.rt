@@ -38,8 +38,8 @@ impl View<'_> {
         let mut modes = [false; 32];
         let course = chain.walk(&mut modes);
         let mut parts = [Part::EMPTY; 32];
-        for k in chain.from..32 {
-            parts[k - chain.from] = chain.part_at(k, modes[k - chain.from]);
+        for (place, k) in (chain.from..32).enumerate() {
+            parts[place] = chain.part_at(k, modes[place]);
         }
         GroupParts {
             parts,

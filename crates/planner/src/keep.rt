@@ -5,8 +5,9 @@ ghost use Rattle.planner.specs.Askers.{Listed, Relinked, Askers, Reworking};
 ghost use Rattle.planner.specs.Settling.{Handed, victims_in};
 
 use crate::Victims;
+use crate::circles::NOBODY;
 use crate::sheet::{Column, Sheet};
-use job::{Held, Job};
+use job::{Held, Job, Request};
 
 // Who may still ask for something: places 0 .. count of the list, an array with its count since nothing allocates. A request is never made, only granted or dropped, so that nobody comes onto it.
 #[derive(Clone, Copy)]
@@ -41,7 +42,7 @@ impl Sheet {
         self.put(job, Column::Rollback, u32::from(rollback));
         self.put(job, Column::Mode, u32::from(rolling));
         self.put(job, Column::Asks, u32::from(asks));
-        self.link(job, 255, 0, 0);
+        self.link(job, NOBODY, 0, 0);
     }
 
     // The row of one who asks for what the job has so after its part.
@@ -52,7 +53,7 @@ impl Sheet {
         if 0 < h.hold {
             self.link(row, job, h.hold, h.rollback);
         } else if self.cell(row, Column::Waits) == u32::from(job) {
-            self.link(row, 255, 0, 0);
+            self.link(row, NOBODY, 0, 0);
         }
     }
 
@@ -63,6 +64,7 @@ impl Sheet {
         ensures { Relinked job held.now asking.old.count self.old asking.old.list self.new asking.new.count asking.new.list }
     {
         let mut left = 0;
+        // By index, since an iterator over the list would borrow what the loop writes.
         for k in 0..asking.count {
             let asker = asking.list[k];
             let row = usize::from(asker);
@@ -93,8 +95,8 @@ impl Sheet {
         ensures { self.new ≡ sent_row row self.old }
     {
         self.put(row, Column::Mode, 1);
-        self.put(row, Column::Asks, 255);
-        self.link(row, 255, 0, 0);
+        self.put(row, Column::Asks, u32::from(Request::NONE.resource));
+        self.link(row, NOBODY, 0, 0);
     }
 
     pub(crate) fn settle_rows(&mut self, v: Victims)

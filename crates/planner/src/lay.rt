@@ -4,9 +4,11 @@ ghost use Rattle.planner.specs.Standing.{SheetBlank};
 ghost use Rattle.planner.specs.RowLaid.{waiting_row, laid_row, vacant_row, laid_sheet};
 ghost use Rattle.planner.specs.RowRight.{RowThere};
 
+use crate::circles::NOBODY;
 use crate::sheet::{Column, Sheet};
 use book::Judged;
 use cursor::field::value_at;
+use job::Request;
 use opening::head::head_at;
 use opening::held::held_at;
 
@@ -56,8 +58,8 @@ impl Sheet {
         requires { row < 32 }
         ensures { self.new ≡ vacant_row row self.old }
     {
-        self.put(row, Column::Asks, 255);
-        self.put(row, Column::Waits, 255);
+        self.put(row, Column::Asks, u32::from(Request::NONE.resource));
+        self.put(row, Column::Waits, u32::from(NOBODY));
     }
 
     // The sheet comes in as zeros.

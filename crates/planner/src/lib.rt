@@ -55,6 +55,14 @@ pub struct GroupParts {
     pub course: Course,
 }
 
+impl GroupParts {
+    pub(crate) const NONE: GroupParts = GroupParts {
+        parts: [Part::EMPTY; 32],
+        count: 0,
+        course: Course::START,
+    };
+}
+
 // A plan as numbers: parts 0 .. count, and empty parts after them; moment is its end.
 #[derive(Clone, Copy)]
 pub struct PlanParts {

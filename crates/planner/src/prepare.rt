@@ -20,8 +20,9 @@ pub(crate) fn prepare(bytes: &[u8], j: &Judged, sheet: &mut Sheet) -> Result<Vic
         bytes,
         sheet,
         moment: j.now,
+        jobs: j.jobs,
     };
-    let v = view.victims(j.jobs);
+    let v = view.victims();
     if v.knot < 32 {
         return Err(Refusal {
             number: KNOT,

@@ -5,11 +5,11 @@ ghost use Rattle.gus.specs.Round.{worthwhile};
 ghost use Rattle.planner.specs.Seen.{seen_by};
 ghost use Rattle.planner.specs.Asking.{Scanning};
 ghost use Rattle.planner.specs.LaidOut.{laid_out};
-ghost use Rattle.planner.specs.Round.{no_group, round_of};
+ghost use Rattle.planner.specs.Round.{round_of};
 
 use crate::GroupParts;
 use crate::view::View;
-use gus::{Course, Part};
+use gus::Course;
 
 // "is appended if above zero"
 fn above_zero(c: Course) -> bool
@@ -18,27 +18,17 @@ fn above_zero(c: Course) -> bool
     0 < c.gain
 }
 
-fn no_group() -> GroupParts
-    ensures { result ≡ laid_out no_group }
-{
-    GroupParts {
-        parts: [Part::EMPTY; 32],
-        count: 0,
-        course: Course::START,
-    }
-}
-
 impl View<'_> {
     // A group without parts: no group is worth more than zero, and the plan ends.
-    pub(crate) fn round(&self, n: usize) -> GroupParts
-        requires { Scanning (seen_by self.now) n self.now.moment }
+    pub(crate) fn round(&self) -> GroupParts
+        requires { Scanning (seen_by self.now) self.now.jobs self.now.moment }
         ensures { result ≡ laid_out (round_of by_density (seen_by self.now) self.now.moment) }
     {
-        let b = self.scan(n);
+        let b = self.scan();
         if above_zero(b.course) {
             let last = usize::from(b.last);
             return self.group(last);
         }
-        no_group()
+        GroupParts::NONE
     }
 }

@@ -1,5 +1,4 @@
 // Round after round (VI.1), until no group is worth more than zero.
-ghost use Rattle.std.specs.Prelude.{◌≡◌, ◌≤◌, nat_abs, ◌+ℤ◌};
 ghost use Rattle.book.specs.Format.{book_of};
 ghost use Rattle.gus.specs.Choice.{by_density};
 ghost use Rattle.gus.specs.Round.{rounds};
@@ -12,13 +11,6 @@ use crate::keep::{Asking, EVERY};
 use crate::view::View;
 use crate::{PlanParts, State};
 use gus::Part;
-
-fn sum(total: i32, gain: i32) -> i32
-    requires { (nat_abs total ≤ 1_024_000_000) × (nat_abs gain ≤ 32_000_000) }
-    ensures { result ≡ total +ℤ gain }
-{
-    total + gain
-}
 
 // The state stands in one local from the first round to the last, and each part changes there what it touches: handed from function to
 // function it would be copied each time, and that is most of what a round with short chains costs. Who may still ask for something is
@@ -44,8 +36,9 @@ pub(crate) fn rounds(bytes: &[u8], start: State, n: usize, t: u32) -> PlanParts
             bytes,
             sheet: &state.sheet,
             moment: plan.moment,
+            jobs: n,
         };
-        let g = view.round(n);
+        let g = view.round();
         if g.count == 0 {
             return plan;
         }
@@ -56,11 +49,12 @@ pub(crate) fn rounds(bytes: &[u8], start: State, n: usize, t: u32) -> PlanParts
             state.jobs[number] = new;
             state.holders = holders_after(state.holders, p.job, &new.held);
             state.sheet.put_worked(&mut asking, p.job, &new);
+            // no push: 01 asks for an array of 96 by value
             plan.parts[plan.count] = *p;
             plan.count += 1;
         }
         plan.rounds += 1;
-        plan.total = sum(plan.total, g.course.gain);
+        plan.total += g.course.gain;
         plan.moment += g.course.time;
     }
     plan

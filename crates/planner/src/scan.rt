@@ -7,7 +7,7 @@ ghost use Rattle.gus.specs.Round.{offered, consider, best_of};
 ghost use Rattle.planner.specs.Seen.{seen_by};
 ghost use Rattle.planner.specs.Asking.{Stepping, Scanning};
 
-use crate::best::{no_best, pick};
+use crate::best::pick;
 use crate::course::beats;
 use crate::sheet::Column;
 use crate::view::View;
@@ -72,13 +72,13 @@ impl View<'_> {
         b
     }
 
-    // The best group among those of the first n jobs, as numbers.
-    pub(crate) fn scan(&self, n: usize) -> Best
-        requires { Scanning (seen_by self.now) n self.now.moment }
+    // The best group among those of all jobs, as numbers.
+    pub(crate) fn scan(&self) -> Best
+        requires { Scanning (seen_by self.now) self.now.jobs self.now.moment }
         ensures { result ≡ best_of by_density (seen_by self.now) self.now.moment }
     {
-        let mut b = no_best();
-        for job in 0..n {
+        let mut b = Best::NONE;
+        for job in 0..self.jobs {
             b = self.consider(job, b);
         }
         b

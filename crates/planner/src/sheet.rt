@@ -13,15 +13,15 @@ pub(crate) enum Column {
     Rollback, // rollback time, or NEVER
     Hold, // how long the job that this one waits for runs until what this one requests is free
     Undo, // how long it rolls back until then
-    Waits, // whom this one waits for: a job, or 255
+    Waits, // whom this one waits for: a job, or NOBODY
     Mode, // 1 in rollback, else 0
     End, // where its curve's termination stands in the book
     Pieces, // how many pieces stand before that
-    Asks, // what it requests: a resource, or 255
+    Asks, // what it requests: a resource, or that of Request::NONE
 }
 
-// The rollback time of a job that can't be rolled back.
-pub(crate) const NEVER: u32 = 65535;
+// As a number of the sheet.
+pub(crate) const NEVER: u32 = job::NEVER as u32;
 
 // All rows in one array; the proofs see the list of its numbers. A row is a plain number, as a job is, and each method asks that it be below 32: a
 // type for it would be made and taken apart wherever a job's number also stands for a place in an array of jobs.

@@ -5,7 +5,7 @@ ghost use Rattle.gus.specs.Victims.{loss_of, offer, victim_of};
 ghost use Rattle.planner.specs.Seen.{seen_by};
 ghost use Rattle.planner.specs.Asking.{Stepping, Seeking, Offered};
 
-use crate::best::{no_best, pick};
+use crate::best::pick;
 use crate::course::beats;
 use crate::sheet::{Column, NEVER};
 use crate::view::View;
@@ -40,12 +40,12 @@ impl View<'_> {
     }
 
     // The victim of the circle whose lowest member is low.
-    pub(crate) fn victim_of(&self, circles: &[u8; 32], low: u8, n: usize) -> Best
-        requires { Seeking (seen_by self.now) n self.now.moment circles.now low }
+    pub(crate) fn victim_of(&self, circles: &[u8; 32], low: u8) -> Best
+        requires { Seeking (seen_by self.now) self.now.jobs self.now.moment circles.now low }
         ensures { result ≡ victim_of (seen_by self.now) self.now.moment low }
     {
-        let mut b = no_best();
-        for job in 0..n {
+        let mut b = Best::NONE;
+        for job in 0..self.jobs {
             b = self.offer(circles, low, job, b);
         }
         b

@@ -33,8 +33,8 @@ fn note(mut v: Victims, b: Best, low: u8) -> Victims
 }
 
 impl View<'_> {
-    fn list_victims(&self, circles: &[u8; 32], n: usize) -> Victims
-        requires { Circled (seen_by self.now) n self.now.moment circles.now }
+    fn list_victims(&self, circles: &[u8; 32]) -> Victims
+        requires { Circled (seen_by self.now) self.now.jobs self.now.moment circles.now }
         ensures { result ≡ listed (seen_by self.now) self.now.moment }
     {
         let mut v = Victims {
@@ -42,21 +42,21 @@ impl View<'_> {
             count: 0,
             knot: NOBODY,
         };
-        for job in 0..n {
+        for (job, circle) in circles[..self.jobs].iter().enumerate() {
             let low = job as u8;
-            if circles[job] == low {
-                let b = self.victim_of(circles, low, n);
+            if *circle == low {
+                let b = self.victim_of(circles, low);
                 v = note(v, b, low);
             }
         }
         v
     }
 
-    pub(crate) fn victims(&self, n: usize) -> Victims
-        requires { Scanning (seen_by self.now) n self.now.moment }
+    pub(crate) fn victims(&self) -> Victims
+        requires { Scanning (seen_by self.now) self.now.jobs self.now.moment }
         ensures { result ≡ listed (seen_by self.now) self.now.moment }
     {
-        let found = self.sheet.circles(n);
-        self.list_victims(&found, n)
+        let found = self.sheet.circles(self.jobs);
+        self.list_victims(&found)
     }
 }

@@ -8,4 +8,5 @@ pub(crate) struct View<'a> {
     pub(crate) bytes: &'a [u8],
     pub(crate) sheet: &'a Sheet,
     pub(crate) moment: u32,
+    pub(crate) jobs: usize, // how many of the rows have a job
 }

@@ -5,7 +5,6 @@ ghost use Rattle.text.specs.Listed.{listed_told};
 ghost use Rattle.text.specs.First.{first_line, first_outcome};
 ghost use Rattle.text.specs.Wrote.{Wrote};
 
-use crate::NO_ROOM;
 use crate::line::put_refused;
 use crate::listing::moment_of;
 use crate::word::Writer;
@@ -33,7 +32,7 @@ pub fn write_first(book: &[u8], out: &mut [u8]) -> Result<usize, Refusal>
     ensures { (result ≡ listed_told (first_outcome book.now out.old).listed) × (out.new ≡ (first_outcome book.now out.old).out) }
 {
     if out.len() < 32 {
-        return Err(NO_ROOM);
+        return Err(Refusal::NO_ROOM);
     }
     match first_part(book) {
         Ok(first) => Ok(put_first(out, first, moment_of(book))),

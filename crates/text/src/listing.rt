@@ -6,7 +6,6 @@ ghost use Rattle.text.specs.Listing.{plan_text, listing_outcome};
 ghost use Rattle.text.specs.Wrote.{Wrote};
 ghost use Rattle.text.specs.Texts.{Moment};
 
-use crate::NO_ROOM;
 use crate::line::put_refused;
 use crate::word::Writer;
 use cursor::Refusal;
@@ -42,7 +41,7 @@ pub fn write_listing(book: &[u8], out: &mut [u8]) -> Result<usize, Refusal>
     ensures { (result ≡ listed_told (listing_outcome book.now out.old).listed) × (out.new ≡ (listing_outcome book.now out.old).out) }
 {
     if out.len() < 4096 {
-        return Err(NO_ROOM);
+        return Err(Refusal::NO_ROOM);
     }
     match plan(book) {
         Ok(p) => Ok(put_plan(out, &p, moment_of(book))),

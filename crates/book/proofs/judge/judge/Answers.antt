@@ -81,25 +81,29 @@ returns-in_err-head c =
 
 pub loop-i-init : goal.loop-i-init
 unfolding no_records
-loop-i-init c = judge-begin
+loop-i-init c = (refl, refl, judge-begin)
 
 pub loop-i-preserved : goal.loop-i-preserved
-loop-i-preserved c = judge-next c.loop-i.invariant c.loop-i-test.true (record-turn _ _ _ _ c.in_ok-read.ensures)
+loop-i-preserved c =
+    let i = c.loop-i.invariant in
+    (i.0, i.1, judge-next i.2 c.loop-i-test.true (record-turn _ _ _ _ c.in_ok-read.ensures))
 
 pub returns-in_err-read : goal.returns-in_err-read
 returns-in_err-read c =
     let s = c.args.s.now in
     let known = MatchResult-at_ok _ _ _ (sym c.header.ensures.is ∙ c.in_ok-head.was) (header-means s) in
-    rw (by-err _ c.from_residual-in_err-read.ensures.1) (by-record s known c.loop-i.i c.loop-i-test.true (record-stops s known c.loop-i.i c.in_err-read.ensures _ c.loop-i.invariant.so_far))
+    rw (by-err _ c.from_residual-in_err-read.ensures.1) (by-record s known c.loop-i.i c.loop-i-test.true (record-stops s known c.loop-i.i c.in_err-read.ensures _ c.loop-i.invariant.2.so_far))
 
 pub returns-in_err-tail : goal.returns-in_err-tail
 returns-in_err-tail c =
     let s = c.args.s.now in
     let known = MatchResult-at_ok _ _ _ (sym c.header.ensures.is ∙ c.in_ok-head.was) (header-means s) in
-    rw (by-err _ c.from_residual-in_err-tail.ensures.1) (by-tail s known (judge-ended c.loop-i.invariant c.loop-i-test.false) (at_err _ c.tail.ensures c.in_err-tail.was))
+    rw (by-err _ c.from_residual-in_err-tail.ensures.1) (by-tail s known (judge-ended c.loop-i.invariant.2 c.loop-i-test.false) (at_err _ c.tail.ensures c.in_err-tail.was))
 
 pub returns : goal.returns
 returns c =
     let s = c.args.s.now in
     let known = MatchResult-at_ok _ _ _ (sym c.header.ensures.is ∙ c.in_ok-head.was) (header-means s) in
-    accepted s known (judge-ended c.loop-i.invariant c.loop-i-test.false) (at_ok _ c.tail.ensures c.in_ok-tail.was).0
+    let i = c.loop-i.invariant in
+    (λ k. Ok (record { now = i.0 k; jobs = i.1 k; holders = c.loop-i.book.holders; starts = c.loop-i.book.starts }))
+    ∙ accepted s known (judge-ended i.2 c.loop-i-test.false) (at_ok _ c.tail.ensures c.in_ok-tail.was).0

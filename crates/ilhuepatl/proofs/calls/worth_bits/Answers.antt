@@ -12,6 +12,7 @@ use mir.Facts.{to_z-of_z}
 use Rattle.laws.specs.Signed.{fits-abs}
 use Rattle.curve.specs.Worth.{amount}
 use Rattle.ilhuepatl.specs.Calls.{worth_bits}
+use Rattle.ilhuepatl.proofs.Bytes.{bits_are}
 use Rattle.ilhuepatl.proofs.calls.worth_bits.Goals as goal
 
 narrow : {w : Option ℤ} {n : ℤ} → nat_abs (amount w) ≤ 1000000 → w ≡ Some n → SFits w32 n
@@ -30,4 +31,5 @@ returns-in-None c = ap worth_bits (sym c.in-None.is)
 pub returns-in-Some : goal.returns-in-Some
 returns-in-Some c =
     let wide : SFits w64 c.in-Some.n = search rules in
-    c.from.ensures ∙ (rw (to_z-of_z wide, to_z-of_z (narrow c.requires c.in-Some.is)) at c.bits_of.ensures) ∙ ap worth_bits (sym c.in-Some.is)
+    let fits : SFits w32 c.in-Some.n = narrow c.requires c.in-Some.is in
+    c.from.ensures ∙ (rw (to_z-of_z wide, to_z-of_z fits) at c.cast_unsigned.ensures) ∙ bits_are c.in-Some.n fits ∙ ap worth_bits (sym c.in-Some.is)

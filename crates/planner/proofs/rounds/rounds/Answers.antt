@@ -1,8 +1,8 @@
 -- `planner::rounds::rounds` meets its contract: the plan so far, joined with the rounds left, is the whole plan, and the state is the one that the rounds reach.
-use mathlib.Core.Path.{◌≡◌, refl, sym, ap, ◌∙◌}
+use mathlib.Core.Path.{◌≡◌, refl, sym, ap}
 use mathlib.Core.List.{List}
 use mir.Syntax.{w32}
-use mir.Val.{to_z, of_z}
+use mir.Val.{SFits, to_z, of_z}
 use mir.Facts.{to_z-of_z}
 use lib.IntN.{ℤ, ◌+ℤ◌}
 use native.Mathlib.Omega.{arith}
@@ -10,8 +10,8 @@ use Prim.Native.Nat.{ℕ, suc, ◌+◌, ◌-◌, ◌<◌}
 use lib.ListN.{length, get_or, set, take}
 use lib.Seq.{get_or-take}
 use Rattle.std.proofs.Common.{add-zero, add_assoc}
-use borrow.Author.Rules.{rules}
 use Rattle.laws.specs.Signed.{fits-abs}
+use Rattle.laws.proofs.Signed.{abs-add}
 use Rattle.laws.specs.Fill.{padded}
 use Rattle.gus.specs.Choice.{by_density}
 use Rattle.gus.specs.Round.{rounds}
@@ -46,6 +46,7 @@ record Grouped (bytes : List ℕ) (s : Stage) (g : GroupParts) : Type 0 where
   long : length (take g.count g.parts) ≡ g.count
   total : to_z w32 (of_z w32 s.total) ≡ s.total
   gain : to_z w32 (of_z w32 g.course.gain) ≡ g.course.gain
+  sum : SFits w32 (s.total +ℤ g.course.gain)
 
 module _ {bytes : List ℕ} {n t i asking : ℕ} {start : State} {s : Stage} {askers : List ℕ} {g : GroupParts}
     (y : Starting bytes start n t) (l : Going bytes n (rounds 32 by_density (pay_in bytes) start.jobs t) (opening start t) s askers asking i)
@@ -63,6 +64,7 @@ module _ {bytes : List ℕ} {n t i asking : ℕ} {start : State} {s : Stage} {as
         long = group-length by_density (pay_in bytes) s same-group;
         total = to_z-of_z {w = w32} (fits-abs _ (omega (arith, j.total)));
         gain = to_z-of_z {w = w32} (fits-abs _ (omega (arith, j.gain)));
+        sum = fits-abs _ (omega (arith, j.total, j.gain, abs-add s.total g.course.gain));
       }
 
 -- the group of a round that has one
@@ -155,14 +157,14 @@ loop-p-preserved c =
     }
 
 -- ---- the group is joined to the plan
-pub sum-requires : goal.sum-requires
-sum-requires c =
-    let g = group (goal.at.sum-requires c).Else-g-eq0 in
-    (rw ((numbers c.loop-p.invariant.plan_is).2, g.total) g.join.total, rw g.gain g.join.gain)
-
 pub overflow_add-plan-in-loop-2 : goal.overflow_add-plan-in-loop-2
 overflow_add-plan-in-loop-2 c =
     let g = group (goal.at.overflow_add-plan-in-loop-2 c).Else-g-eq0 in
+    rw ((numbers c.loop-p.invariant.plan_is).2, g.total, g.gain) g.sum
+
+pub overflow_add-plan-in-loop-3 : goal.overflow_add-plan-in-loop-3
+overflow_add-plan-in-loop-3 c =
+    let g = group (goal.at.overflow_add-plan-in-loop-3 c).Else-g-eq0 in
     record { fits = omega (arith, g.join.moment, g.join.time, (numbers c.loop-p.invariant.plan_is).3) }
 
 pub loop-preserved : goal.loop-preserved
@@ -174,7 +176,8 @@ loop-preserved c =
     let same = numbers c.loop-p.invariant.plan_is in
     let done = working-ended w c.loop-p-test.false in
     let count : c.loop-p.plan.count ≡ c.loop.plan.count + c.round-g.result.count = omega (arith, g.long, same.0, c.loop-p-test.false) in
-    let total : to_z w32 (of_z w32 c.sum.result) ≡ c.loop.plan.total +ℤ c.round-g.result.course.gain = to_z-of_z {w = w32} {z = c.sum.result} (search rules) ∙ (rw (same.2, g.total, g.gain) at c.sum.ensures) in
+    let total : to_z w32 (of_z w32 (to_z w32 (of_z w32 c.loop-p.plan.total) +ℤ to_z w32 (of_z w32 c.round-g.result.course.gain))) ≡ c.loop.plan.total +ℤ c.round-g.result.course.gain =
+    rw (same.2, g.total, g.gain) (to_z-of_z {w = w32} g.sum) in
     let joined = round-joined by_density p (stage_of c.loop.state c.loop.plan) g.same done.0 done.1 total in
     record {
       going = rw (count, same.1, same.3) (record {

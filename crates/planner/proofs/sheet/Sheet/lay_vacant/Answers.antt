@@ -4,4 +4,4 @@ use Rattle.planner.proofs.sheet.Sheet.lay_vacant.Goals as goal
 
 pub returns : goal.returns
 unfolding vacant_row
-returns c = rw (c.put-2.ensures, c.put.ensures)
+returns c = rw (c.put-2.ensures, c.from-2.ensures, c.put.ensures, c.from.ensures)

@@ -2,11 +2,12 @@
 use mathlib.Core.Path.{sym, ◌∙◌, ◌≡◌}
 use Prim.Native.Nat.{◌<◌}
 use native.Mathlib.Omega.{arith}
+use Rattle.std.proofs.Common.{get_or-take}
 use Rattle.planner.specs.Circling.{circle-at}
 use Rattle.planner.specs.Offering.{victim-below}
 use Rattle.planner.specs.Listing.{listed-begin, listed-room, listed_more, listed_same, listed-among}
 use Rattle.planner.proofs.view.View.list_victims.Goals as goal
-use Rattle.planner.proofs.view.View.list_victims.Goals.{then-circles-job, else-circles-job}
+use Rattle.planner.proofs.view.View.list_victims.Goals.{then-circle-low, else-circle-low}
 
 pub loop-job-init : goal.loop-job-init
 loop-job-init c = listed-begin _ _
@@ -18,13 +19,13 @@ pub loop-job-preserved : goal.loop-job-preserved
 loop-job-preserved c =
     let l = c.loop-job in
     let h : l.job < 32 = omega arith in
-    let circle = circle-at _ _ c.requires.circles_are h in
-    elim c.if-circles-job.branch [
-      | then-circles-job w ↦ listed_more _ _ _ h l.invariant (sym circle ∙ w.if-circles-job.true) w.victim_of-b.ensures (w.v-is ∙ w.note-v.ensures)
-      | else-circles-job w ↦ w.v-is ∙ l.invariant ∙ listed_same _ _ _ h (λ e. w.if-circles-job.false (circle ∙ e))
+    let circle = get_or-take c.args.self.now.jobs c.args.circles.now l.job 0 (omega arith) ∙ circle-at _ _ c.requires.circles_are h in
+    elim c.if-circle-low.branch [
+      | then-circle-low w ↦ listed_more _ _ _ h l.invariant (sym circle ∙ w.if-circle-low.true) w.victim_of-b.ensures (w.v-is ∙ w.note-v.ensures)
+      | else-circle-low w ↦ w.v-is ∙ l.invariant ∙ listed_same _ _ _ h (λ e. w.if-circle-low.false (circle ∙ e))
     ]
 
 pub returns : goal.returns
 returns c =
-    let e : c.loop-job.job ≡ c.args.n = omega arith in
+    let e : c.loop-job.job ≡ c.args.self.now.jobs = omega arith in
     (rw e at c.loop-job.invariant) ∙ listed-among _ _ c.requires.scanning.beyond

@@ -1,6 +1,9 @@
 -- `planner::view::View::round` meets its contract: the best group's parts where it is worth more than zero, and none otherwise.
+use mathlib.Core.Path.{refl}
+use Rattle.laws.specs.Fill.{padded}
 use Rattle.gus.specs.Choice.{by_density}
 use Rattle.planner.specs.Seen.{seen_by}
+use Rattle.planner.specs.LaidOut.{laid_out}
 use Rattle.planner.specs.Bounds.{small-start}
 use Rattle.planner.specs.Round.{last-below, best-found, none_found}
 use Rattle.planner.proofs.view.View.round.Goals as goal
@@ -20,6 +23,7 @@ returns-then-above_zero c =
     best-found by_density (seen_by a.self.now) a.self.now.moment c.scan-b.ensures c.above_zero.ensures c.if-above_zero.true c.from-last.ensures c.group.ensures
 
 pub returns : goal.returns
+unfolding laid_out padded
 returns c =
     let a = c.args in
-    none_found by_density (seen_by a.self.now) a.self.now.moment c.scan-b.ensures c.above_zero.ensures c.if-above_zero.false c.no_group.ensures
+    none_found by_density (seen_by a.self.now) a.self.now.moment c.scan-b.ensures c.above_zero.ensures c.if-above_zero.false refl

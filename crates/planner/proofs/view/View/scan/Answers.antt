@@ -11,4 +11,4 @@ pub loop-job-preserved : goal.loop-job-preserved
 loop-job-preserved c = count_next c.loop-job.invariant c.loop-job-test.true c.consider-b.ensures
 
 pub returns : goal.returns
-returns c = (rw c.no_best-b.ensures at (count-ended c.loop-job.invariant c.loop-job-test.false)) ∙ best-among _ _ _ c.requires.beyond
+returns c = count-ended c.loop-job.invariant c.loop-job-test.false ∙ best-among _ _ _ c.requires.beyond

@@ -11,4 +11,4 @@ pub loop-job-preserved : goal.loop-job-preserved
 loop-job-preserved c = count_next c.loop-job.invariant c.loop-job-test.true c.offer-b.ensures
 
 pub returns : goal.returns
-returns c = let p = c.requires in (rw c.no_best-b.ensures at (count-ended c.loop-job.invariant c.loop-job-test.false)) ∙ victim-among _ _ _ p.lowest p.circled.scanning.beyond
+returns c = let p = c.requires in count-ended c.loop-job.invariant c.loop-job-test.false ∙ victim-among _ _ _ p.lowest p.circled.scanning.beyond
