@@ -1,9 +1,10 @@
 -- A book judged: its refusal, or what it has but for its records, and where these stand.
-use Rattle.std.specs.Prelude.{ℕ, cond, List, ◌∷◌, map, ltb, Result, Ok}
+use Rattle.std.specs.Prelude.{ℕ, ◌≡◌, ◌≤◌, cond, List, ◌∷◌, map, ltb, Result, Ok, Err, MatchResult}
 use Rattle.book.specs.declared.Span.{Span}
 use Rattle.book.specs.Read.{Book, JudgedBook}
 use Rattle.book.specs.declared.Judged.{Judged}
 use Rattle.cursor.specs.declared.Refusal.{Refusal}
+use Rattle.cursor.specs.declared.Header.{Header}
 use Rattle.cursor.specs.Answer.{refuse}
 use Rattle.book.specs.Format.{book_of}
 
@@ -22,3 +23,8 @@ judgement b = cond (ltb 0 b.number) (refuse b.number b.place) (Ok (record { now 
 -- and back
 abbrev pub judged_book : Judged → JudgedBook
 judged_book j = record { number = 0; place = 0; now = j.now; jobs = j.jobs; holders = j.holders; starts = j.starts }
+
+-- a book judged: what its header has, who holds what and where its records stand, and its bounds; or the refusal
+abbrev pub JudgedInto : List ℕ → Result Header Refusal → List ℕ → List ℕ → Type 0
+JudgedInto s o holders starts =
+    MatchResult o (λ h. (Ok (record { now = h.now; jobs = h.jobs; holders = holders; starts = starts }) ≡ judgement (judged_of s)) × (h.jobs ≤ 32) × (h.now ≤ 2147483647)) (λ d. Err d ≡ judgement (judged_of s))

@@ -67,6 +67,11 @@ PiecesJudged s at o =
     let x = pieces_read s (stands_at at) in
     MatchResult o (λ q. (x.reading ≡ got q.1) × (x.last ≡ q.0)) (Refused x.reading)
 
+-- what the definition of such a reader leaves, refused or not: the reading, and who holds what
+pub record Left (reading : Reading) (holders : List ℕ) (o : Reading) (h : List ℕ) : Type 0 where
+  pub in_reading : o ≡ reading
+  pub in_holders : h ≡ holders
+
 -- what a reader of held lists leaves: the last field that was read and who holds what, or the refusal
 abbrev pub Leaves : Reading → List ℕ → Result FieldRead Refusal → List ℕ → Type 0
 Leaves e holders o h = MatchResult o (λ f. (e ≡ got f) × (h ≡ holders)) (Refused e)
@@ -84,11 +89,16 @@ abbrev pub held_seen : HeldList → Reading × List ℕ
 held_seen h = (h.reading, h.holders)
 
 module _ (s : List ℕ) (job resources run rollback i : ℕ) where
-  pub entry-turn : {read o : FieldRead} {holders noted : List ℕ} → EntryJudged s job resources run rollback holders read.next (Ok o) noted → (h : HeldList) → (got read, holders) ≡ held_seen h → (got o, noted) ≡ held_seen (entry_next s job resources run rollback i h)
-  unfolding entry_next entry_read held_resource field_of
-  entry-turn j h seen =
-      (λ k. (sym j.0 k, j.1 k))
+  -- a turn of the definition, from any reading to any reading
+  pub entry-turned : {reading o : Reading} {holders noted : List ℕ} → (let x = entry_read s resources run rollback holders reading in Left x.reading (set holders x.entry.resource job) o noted) → (h : HeldList) → (reading, holders) ≡ held_seen h → (o, noted) ≡ held_seen (entry_next s job resources run rollback i h)
+  unfolding entry_next
+  entry-turned j h seen =
+      (λ k. (j.in_reading k, j.in_holders k))
       ∙ ap (λ v. let x = entry_read s resources run rollback v.1 v.0 in (x.reading, set v.1 x.entry.resource job)) seen
+
+  pub entry-turn : {read o : FieldRead} {holders noted : List ℕ} → EntryJudged s job resources run rollback holders read.next (Ok o) noted → (h : HeldList) → (got read, holders) ≡ held_seen h → (got o, noted) ≡ held_seen (entry_next s job resources run rollback i h)
+  unfolding entry_read held_resource field_of
+  entry-turn j = entry-turned (record { in_reading = sym j.0; in_holders = j.1 })
 
 -- the ends of the records so far, after where the first of them starts
 abbrev pub ends_from : ℕ → List Span → List ℕ
@@ -103,9 +113,13 @@ ends_set (x ∷ l) zero start end = refl
 ends_set (x ∷ l) (suc i) start end = ap (λ t. x.end ∷ t) (ends_set l i start end)
 
 module _ (s : List ℕ) (resources i first : ℕ) where
-  pub record-turn : {read o : FieldRead} {holders noted starts : List ℕ} → RecordJudged s i resources holders read.next (Ok o) noted → (b : Records) → (got read, holders, starts) ≡ records_seen first b → (got o, noted, set starts (i + 1) o.next) ≡ records_seen first (record_next s resources i b)
-  unfolding record_next record_read field_of
-  record-turn {starts = starts} j b seen = rw add-one
-      ((λ k. (sym j.0 k, j.1 k, set starts (suc i) (sym j.0 k).next))
+  pub record-turned : {reading o : Reading} {holders noted starts : List ℕ} → (let x = record_read s i resources holders reading in Left x.reading x.holders o noted) → (b : Records) → (reading, holders, starts) ≡ records_seen first b → (o, noted, set starts (i + 1) o.next) ≡ records_seen first (record_next s resources i b)
+  unfolding record_next
+  record-turned {starts = starts} j b seen = rw add-one
+      ((λ k. (j.in_reading k, j.in_holders k, set starts (suc i) (j.in_reading k).next))
       ∙ ap (λ v. let x = record_read s i resources v.1 v.0 in (x.reading, x.holders, set v.2 (suc i) x.reading.next)) seen
       ∙ (λ k. let x = record_read s i resources b.holders b.reading in (x.reading, x.holders, first ∷ ends_set b.spans i b.reading.next x.reading.next k)))
+
+  pub record-turn : {read o : FieldRead} {holders noted starts : List ℕ} → RecordJudged s i resources holders read.next (Ok o) noted → (b : Records) → (got read, holders, starts) ≡ records_seen first b → (got o, noted, set starts (i + 1) o.next) ≡ records_seen first (record_next s resources i b)
+  unfolding record_read field_of
+  record-turn j = record-turned (record { in_reading = sym j.0; in_holders = j.1 })

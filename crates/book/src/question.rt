@@ -1,9 +1,9 @@
 // The record question: one job's record as a part of the lent book (01, "Forms for specific places").
 ghost use Rattle.std.specs.Prelude.{◌≡◌, ◌≤◌, length};
-ghost use Rattle.book.specs.Question.{found_in, found_answer, part_between, IsRecord, Answers};
+ghost use Rattle.book.specs.Question.{found_answer, part_between, IsRecord, Answers};
 
 use crate::Span;
-use crate::judge::judge;
+use crate::judge::judge_into;
 use cursor::Refusal;
 
 // number and place: the refusal's, or 0 and 0. part: the record, and empty where there is none.
@@ -19,13 +19,15 @@ pub struct RecordAnswer<'a> {
 pub fn find_record(s: &[u8], job: usize) -> Result<Option<Span>, Refusal>
     ensures { result ≡ found_answer s.now job }
 {
-    let book = judge(s)?;
-    if book.jobs <= job {
+    let mut holders = [255u8; 32];
+    let mut starts = [0usize; 33];
+    let head = judge_into(s, &mut holders, &mut starts)?;
+    if head.jobs <= job {
         return Ok(None);
     }
     Ok(Some(Span {
-        start: book.starts[job],
-        end: book.starts[job + 1],
+        start: starts[job],
+        end: starts[job + 1],
     }))
 }
 

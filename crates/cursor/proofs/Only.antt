@@ -14,6 +14,7 @@ use contract.Monad.{Fun, conj, fact}
 use denote.Ref.{Bor}
 use denote.Triple.Clauses.{AtExit}
 use Rattle.cursor.specs.declared.Header.{Header}
+use Rattle.cursor.specs.declared.HeaderRefused.{HeaderRefused}
 use Rattle.cursor.specs.declared.reader.BookReader.{BookReader}
 use Rattle.cursor.specs.declared.reader.NextField.{NextField}
 use Rattle.std.specs.Prelude.{Result}
@@ -28,6 +29,11 @@ use Rattle.cursor.proofs.field.field.Kinds as field-kinds
 use Rattle.cursor.proofs.field.field.Reads as field
 use Rattle.cursor.proofs.field.rule.Kinds as rule-kinds
 use Rattle.cursor.proofs.field.rule.Reads as rule
+use Rattle.cursor.proofs.field.field_after.Kinds as field-after-kinds
+use Rattle.cursor.proofs.field.field_after.Reads as field-after
+use Rattle.cursor.proofs.field.rule_after.Kinds as rule-after-kinds
+use Rattle.cursor.proofs.field.rule_after.Reads as rule-after
+use Rattle.cursor.proofs.RefusalFromHeaderRefused.from.Reads as refusal-from-header
 use Rattle.cursor.proofs.head.header.Kinds as header-kinds
 use Rattle.cursor.proofs.head.header.Reads as header
 use Rattle.cursor.specs.contracts.reader.open_reader as open-reader
@@ -51,7 +57,18 @@ rule-only : (f : FieldRead) (ok : Bool) (number place : ℕ) (o o' : Result Fiel
     → rule.Post tt (f, (ok, (number, (place, tt)))) o e → rule.Post tt (f, (ok, (number, (place, tt)))) o' e' → o ≡ o'
 rule-only f ok number place o o' e e' p q = p ∙ sym q
 
-header-only : (κs : Lfts 1) (s : Bor (List ℕ)) (o o' : Result Header Refusal) (e e' : AtExit (ended_of 1 header-kinds.ps header-kinds.r) κs) → header.Post κs (s, tt) o e → header.Post κs (s, tt) o' e' → o ≡ o'
+field-after-only : (κs : Lfts 1) (s : Bor (List ℕ)) (read : Result FieldRead Refusal) (n low high number : ℕ) (o o' : Result FieldRead Refusal) (e e' : AtExit (ended_of 1 field-after-kinds.ps field-after-kinds.r) κs)
+    → field-after.Post κs (s, (read, (n, (low, (high, (number, tt)))))) o e → field-after.Post κs (s, (read, (n, (low, (high, (number, tt)))))) o' e' → o ≡ o'
+field-after-only κs s read n low high number o o' e e' p q = p ∙ sym q
+
+rule-after-only : (read : Result FieldRead Refusal) (ok : Bool) (number place : ℕ) (o o' : Result FieldRead Refusal) (e e' : AtExit (ended_of 0 rule-after-kinds.ps rule-after-kinds.r) tt)
+    → rule-after.Post tt (read, (ok, (number, (place, tt)))) o e → rule-after.Post tt (read, (ok, (number, (place, tt)))) o' e' → o ≡ o'
+rule-after-only read ok number place o o' e e' p q = p ∙ sym q
+
+refusal-from-header-only : (h : HeaderRefused) (d d' : Refusal) (e e' : _) → refusal-from-header.Post tt (h, tt) d e → refusal-from-header.Post tt (h, tt) d' e' → d ≡ d'
+refusal-from-header-only h d d' e e' p q = p ∙ sym q
+
+header-only : (κs : Lfts 1) (s : Bor (List ℕ)) (o o' : Result Header HeaderRefused) (e e' : AtExit (ended_of 1 header-kinds.ps header-kinds.r) κs) → header.Post κs (s, tt) o e → header.Post κs (s, tt) o' e' → o ≡ o'
 header-only κs s o o' e e' p q = p.is ∙ sym q.is
 
 same-reader : {r r' : BookReader} → r.book ≡ r'.book → r.place ≡ r'.place → r ≡ r'

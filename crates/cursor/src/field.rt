@@ -1,7 +1,7 @@
 // One field, and one further rule.
 ghost use Rattle.std.specs.Prelude.{◌≡◌, ◌<◌, ◌^◌};
 ghost use Rattle.cursor.specs.Field.{value_in};
-ghost use Rattle.cursor.specs.Answer.{field_at, ruled};
+ghost use Rattle.cursor.specs.Answer.{field_at, field_after, ruled, ruled_after};
 
 use crate::{FieldRead, Refusal};
 
@@ -73,4 +73,30 @@ pub fn rule(f: FieldRead, ok: bool, number: u8, place: usize) -> Result<FieldRea
     } else {
         Err(Refusal { number, place })
     }
+}
+
+// The n bytes after what was read, or the refusal met before.
+pub fn field_after(
+    s: &[u8],
+    read: Result<FieldRead, Refusal>,
+    n: usize,
+    low: usize,
+    high: usize,
+    number: u8,
+) -> Result<FieldRead, Refusal>
+    ensures { result ≡ field_after s.now n low high number read }
+{
+    field(s, read?.next, n, low, high, number)
+}
+
+// A further rule on what was read, or the refusal met before.
+pub fn rule_after(
+    read: Result<FieldRead, Refusal>,
+    ok: bool,
+    number: u8,
+    place: usize,
+) -> Result<FieldRead, Refusal>
+    ensures { result ≡ ruled_after ok number place read }
+{
+    rule(read?, ok, number, place)
 }

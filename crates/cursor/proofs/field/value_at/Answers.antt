@@ -1,10 +1,10 @@
 -- `cursor::field::value_at` meets its contract.
-use Prim.Native.Nat.{ℕ, ◌+◌, ◌*◌, ◌^◌, ◌<◌, ◌≤◌}
-use mathlib.Core.Path.{◌≡◌, refl, sym, ◌∙◌}
+use Prim.Native.Nat.{ℕ, ◌+◌, ◌*◌, ◌≤◌}
+use mathlib.Core.Path.{◌≡◌, sym, ◌∙◌}
 use mathlib.Core.List.{List}
 use lib.ListN.{get_or, length}
 use native.Mathlib.Omega.{arith}
-use borrow.Author.Tests.{eq-eqb, ne_eqb}
+use borrow.Author.Tests.{ne_eqb}
 use Rattle.cursor.specs.Field.{value_at, value_in}
 use Rattle.cursor.specs.Value.{value_there, value-cut, some-room}
 use Rattle.cursor.proofs.field.value_at.Goals as goal

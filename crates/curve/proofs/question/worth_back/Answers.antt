@@ -30,8 +30,7 @@ pub returns-then-piece-t : goal.returns-then-piece-t
 returns-then-piece-t c =
     let split = c.in_ok-rest.ensures.cases in
     ap Some (to_z-of_z {w = w64} {z = c.line_at.result} (search rules) ∙ c.line_at.ensures)
-    ∙ backing-served backing-begin (omega arith) (omega (arith, split)) (c.piece_of-piece.ensures ∙ rw split.1 (piece_behind _ _)) (omega arith)
-    ∙ c.loop.invariant
+    ∙ backing-served backing-begin (omega arith) (omega (arith, split)) (c.piece_of-piece.ensures ∙ rw split.1 (piece_behind _ _)) (omega arith) ∙ c.loop.invariant
 
 pub loop-preserved : goal.loop-preserved
 loop-preserved c =

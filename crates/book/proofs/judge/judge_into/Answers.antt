@@ -1,4 +1,4 @@
--- `book::judge::judge` meets its contract. The invariant: the locals are what is seen of the definition after i turns of `record_next`.
+-- `book::judge::judge_into` meets its contract. The invariant: the locals are what is seen of the definition after i turns of `record_next`.
 use Prim.Native.Nat.{ℕ, ◌<◌}
 use mathlib.Core.Path.{◌≡◌, refl, ap, sym, ◌∙◌}
 use mathlib.Core.List.{List}
@@ -15,7 +15,7 @@ use Rattle.cursor.specs.Step.{stands_at}
 use Rattle.cursor.specs.Header.{header_of}
 use Rattle.cursor.specs.Answer.{got, Refused}
 use Rattle.cursor.proofs.Says.{at_ok, at_err}
-use Rattle.cursor.proofs.Heading.{header-means}
+use Rattle.cursor.proofs.Heading.{header-refuses}
 use Rattle.book.specs.declared.Judged.{Judged}
 use Rattle.book.specs.Read.{Records}
 use Rattle.book.specs.Format.{record_read, record_next, no_records, records_read, tail_read, accepted_book, refused_book, book_of}
@@ -23,7 +23,7 @@ use Rattle.book.specs.Judged.{starts_of, judged_of, judgement}
 use Rattle.book.specs.Judging.{judge-begin, judge-next, judge-ended, ends_from, records_seen, record-turn}
 use Rattle.book.specs.Starts.{first-start}
 use Rattle.book.proofs.Stops.{by-err, upto-stays, upto-stops, records-stay, tail-stays}
-use Rattle.book.proofs.judge.judge.Goals as goal
+use Rattle.book.proofs.judge.judge_into.Goals as goal
 
 -- the ends of `judged_of`, each from what the code has read by then
 module _ (s : List ℕ) where
@@ -77,33 +77,30 @@ module _ (s : List ℕ) where
 
 pub returns-in_err-head : goal.returns-in_err-head
 returns-in_err-head c =
-    rw (by-err _ c.from_residual.ensures.1) (by-header c.args.s.now (MatchResult-at_err _ _ _ (sym c.header.ensures.is ∙ c.in_err-head.was) (header-means c.args.s.now)))
+    rw (by-err _ c.from_residual.ensures.1) (by-header c.args.s.now (MatchResult-at_err _ _ _ (sym c.header.ensures.is ∙ c.in_err-head.was) (header-refuses c.args.s.now)))
 
 pub loop-i-init : goal.loop-i-init
 unfolding no_records
-loop-i-init c = (refl, refl, judge-begin)
+loop-i-init c = rw (c.requires.0, c.requires.1) judge-begin
 
 pub loop-i-preserved : goal.loop-i-preserved
-loop-i-preserved c =
-    let i = c.loop-i.invariant in
-    (i.0, i.1, judge-next i.2 c.loop-i-test.true (record-turn _ _ _ _ c.in_ok-read.ensures))
+loop-i-preserved c = judge-next c.loop-i.invariant c.loop-i-test.true (record-turn _ _ _ _ c.in_ok-read.ensures)
 
 pub returns-in_err-read : goal.returns-in_err-read
 returns-in_err-read c =
     let s = c.args.s.now in
-    let known = MatchResult-at_ok _ _ _ (sym c.header.ensures.is ∙ c.in_ok-head.was) (header-means s) in
-    rw (by-err _ c.from_residual-in_err-read.ensures.1) (by-record s known c.loop-i.i c.loop-i-test.true (record-stops s known c.loop-i.i c.in_err-read.ensures _ c.loop-i.invariant.2.so_far))
+    let known = MatchResult-at_ok _ _ _ (sym c.header.ensures.is ∙ c.in_ok-head.was) (header-refuses s) in
+    rw (by-err _ c.from_residual-in_err-read.ensures.1) (by-record s known c.loop-i.i c.loop-i-test.true (record-stops s known c.loop-i.i c.in_err-read.ensures _ c.loop-i.invariant.so_far))
 
 pub returns-in_err-tail : goal.returns-in_err-tail
 returns-in_err-tail c =
     let s = c.args.s.now in
-    let known = MatchResult-at_ok _ _ _ (sym c.header.ensures.is ∙ c.in_ok-head.was) (header-means s) in
-    rw (by-err _ c.from_residual-in_err-tail.ensures.1) (by-tail s known (judge-ended c.loop-i.invariant.2 c.loop-i-test.false) (at_err _ c.tail.ensures c.in_err-tail.was))
+    let known = MatchResult-at_ok _ _ _ (sym c.header.ensures.is ∙ c.in_ok-head.was) (header-refuses s) in
+    rw (by-err _ c.from_residual-in_err-tail.ensures.1) (by-tail s known (judge-ended c.loop-i.invariant c.loop-i-test.false) (at_err _ c.tail.ensures c.in_err-tail.was))
 
 pub returns : goal.returns
 returns c =
     let s = c.args.s.now in
-    let known = MatchResult-at_ok _ _ _ (sym c.header.ensures.is ∙ c.in_ok-head.was) (header-means s) in
-    let i = c.loop-i.invariant in
-    (λ k. Ok (record { now = i.0 k; jobs = i.1 k; holders = c.loop-i.book.holders; starts = c.loop-i.book.starts }))
-    ∙ accepted s known (judge-ended i.2 c.loop-i-test.false) (at_ok _ c.tail.ensures c.in_ok-tail.was).0
+    let known = MatchResult-at_ok _ _ _ (sym c.header.ensures.is ∙ c.in_ok-head.was) (header-refuses s) in
+    let small = MatchResult-at_ok _ _ _ c.in_ok-head.was c.header.ensures.small in
+    (accepted s known (judge-ended c.loop-i.invariant c.loop-i-test.false) (at_ok _ c.tail.ensures c.in_ok-tail.was).0, small.0, small.1)
