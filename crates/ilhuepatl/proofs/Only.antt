@@ -1,5 +1,5 @@
 -- What each public call promises leaves one result and one content of what is lent to it: stated over its own contract, as the check reads it.
-use mathlib.Core.Path.{◌≡◌, refl, sym, ap, ◌∙◌}
+use mathlib.Core.Path.{◌≡◌, refl, sym, ◌∙◌}
 use seplogic.Ra.Ura.{Ura}
 use base.Logic.{SProp}
 use prog.Memory.{Memory}

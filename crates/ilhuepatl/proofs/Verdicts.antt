@@ -1,12 +1,10 @@
 -- The verdicts of the calls as the code answers them.
-use Prim.Native.Nat.{ℕ, ◌<◌, ◌≤◌}
-use native.Mathlib.Omega.{arith}
-use mathlib.Core.Path.{◌≡◌, refl, ap, sym, ◌∙◌}
+use Prim.Native.Nat.{ℕ, ◌<◌}
+use mathlib.Core.Path.{◌≡◌, refl, ap, ◌∙◌}
 use mathlib.Core.Bool.{Bool, true, false}
 use mathlib.Core.List.{List}
-use Rattle.std.specs.Prelude.{Result, Ok, Err, MatchResult, ltb, length}
-use Rattle.std.proofs.Common.{lt-ltb, ltb-true}
-use Rattle.std.proofs.lemmas.Result.{MatchResult-at_ok, MatchResult-at_err}
+use Rattle.std.specs.Prelude.{Result, MatchResult, ltb, length}
+use Rattle.std.proofs.Common.{lt-ltb}
 use Rattle.laws.specs.Stores.{over}
 use Rattle.cursor.specs.declared.Refusal.{Refusal}
 use Rattle.cursor.specs.Refusal.{ROOM}

@@ -67,11 +67,12 @@ impl Sheet {
         requires { SheetBlank bytes.now j.now.starts j.now.holders j.now.jobs self.old }
         ensures { self.new ≡ laid_sheet bytes.now j.entry.now.starts j.entry.now.holders j.entry.now.jobs }
     {
-        for job in 0..j.jobs {
-            self.lay_row(bytes, j, job);
-        }
-        for row in j.jobs..32 {
-            self.lay_vacant(row);
+        for row in 0..32usize {
+            if row < j.jobs {
+                self.lay_row(bytes, j, row);
+            } else {
+                self.lay_vacant(row);
+            }
         }
     }
 }

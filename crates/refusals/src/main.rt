@@ -2,7 +2,7 @@
 // The table is the file `books`, to be read beside 01; the file stdout was written from 01.
 #![tactic(auto)]
 
-ghost use Rattle.std.specs.Prelude.{◌<◌, IfSome};
+ghost use Rattle.std.specs.Prelude.{◌<◌, ◌≤◌, length, IfSome};
 
 use book::judge::judge;
 use book::question::{find_record, record_part};
@@ -57,7 +57,9 @@ fn digit(c: u8) -> Option<u8>
 }
 
 // Two digits a byte; what is no digit only parts the fields for the eye.
-fn bytes_of<'a>(line: &[u8], room: &'a mut [u8; 128]) -> &'a [u8] {
+fn bytes_of<'a>(line: &[u8], room: &'a mut [u8; 128]) -> &'a [u8]
+    ensures { length result.now ≤ 128 }
+{
     let mut digits = line.iter().filter_map(|c| digit(*c));
     for (size, byte) in room.iter_mut().enumerate() {
         let (Some(high), Some(low)) = (digits.next(), digits.next()) else {

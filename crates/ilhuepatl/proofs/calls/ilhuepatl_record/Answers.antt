@@ -1,5 +1,5 @@
 -- `ilhuepatl::calls::ilhuepatl_record` meets its contract: a refusal, where the record stands, or 0.
-use mathlib.Core.Path.{refl, sym, ap, ◌∙◌}
+use mathlib.Core.Path.{sym, ap, ◌∙◌}
 use Rattle.std.specs.Prelude.{Ok}
 use Rattle.std.proofs.lemmas.Result.{MatchResult-at_ok, MatchResult-at_err}
 use Rattle.book.proofs.Judgement.{found-means}

@@ -1,7 +1,7 @@
 -- `ilhuepatl::calls::plan_bytes` meets its contract: no room, the plan's refusal, or the answer.
 use Prim.Native.Nat.{◌<◌}
 use native.Mathlib.Omega.{arith}
-use mathlib.Core.Path.{◌≡◌, refl, sym, ap, subst, ◌∙◌}
+use mathlib.Core.Path.{refl, sym, subst, ◌∙◌}
 use Rattle.std.proofs.lemmas.Result.{MatchResult-at_ok, MatchResult-at_err}
 use Rattle.cursor.specs.Answer.{refuse}
 use Rattle.book.proofs.Stops.{by-err}
@@ -28,8 +28,7 @@ returns-in_err-p c =
 pub put_answer-requires : goal.put_answer-requires
 put_answer-requires c =
     let book = c.args.book.now in
-    let m = MatchResult-at_ok _ _ _ (sym c.plan.ensures ∙ c.in_ok-p.was) (plan-means book) in
-    let k = subst Counted m (counted book) in
+    let k = subst Counted (MatchResult-at_ok _ _ _ (sym c.plan.ensures ∙ c.in_ok-p.was) (plan-means book)) (counted book) in
     (k.victims, k.parts, omega (arith, k.rounds), omega arith)
 
 pub returns : goal.returns

@@ -20,7 +20,7 @@ use Rattle.planner.specs.Told.{planned_book}
 use Rattle.planner.specs.Counted.{Counted, counted}
 use Rattle.planner.proofs.Told.{plan-means}
 use Rattle.ilhuepatl.specs.declared.row.RowAnswer.{RowAnswer}
-use Rattle.ilhuepatl.specs.Rows.{RowFields, RowOutcome, row_told, refused_answer, other_fields, row_outcome_of}
+use Rattle.ilhuepatl.specs.Rows.{RowFields, RowOutcome, row_told, refused_answer, other_fields}
 use Rattle.ilhuepatl.specs.RowPlans.{RowPlan, no_room, refused, answered, filled_by, filled_is}
 use Rattle.ilhuepatl.proofs.Places.{laid}
 use Rattle.ilhuepatl.proofs.row.plan_row.Goals as goal
