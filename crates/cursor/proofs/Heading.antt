@@ -12,6 +12,7 @@ use Rattle.cursor.specs.Refusal.{SIZE, VERSION, COUNT, RANGE}
 use Rattle.cursor.specs.declared.Header.{Header}
 use Rattle.cursor.specs.declared.HeaderRefused.{HeaderRefused}
 use Rattle.cursor.specs.Outcome.{by-test}
+use Rattle.cursor.proofs.Outcome.{field-small}
 use Rattle.cursor.specs.Field.{value_at, refused_at, got_at, judged, read_at, field_of, rule_of}
 use Rattle.cursor.specs.Header.{header_of}
 use Rattle.cursor.specs.Answer.{got, Refused, with_counts, header_answer, Headed}
@@ -51,8 +52,8 @@ module _ (s : List ℕ) where
     heads = rw (le-leb 9 (length s) enough) refl
 
     -- the first refusal met, and the two counts as far as they were read
-    pub heading-refused : {e : HeaderRefused} → Refused now_read e.refusal → jobs_read.value ≡ e.jobs → e.jobs ≤ 32 → resources_read.value ≡ e.resources → Headed s (Err e)
-    heading-refused r j few k = record { is = rw heads (answer-refused _ r j k); small = tt; few = few }
+    pub heading-refused : {e : HeaderRefused} → Refused now_read e.refusal → jobs_read.value ≡ e.jobs → resources_read.value ≡ e.resources → Headed s (Err e)
+    heading-refused r j k = record { is = rw heads (answer-refused _ r j k); small = tt; few = omega (arith, j, field-small s 1 0 32 COUNT (omega arith) version_read) }
 
     pub headed : (jobs resources now : FieldRead) → (jobs_read ≡ got jobs) × (jobs.value ≤ 32) → resources_read ≡ got resources → (now_read ≡ got now) × (now.value ≤ 2147483647)
         → Headed s (Ok (record { jobs = jobs.value; resources = resources.value; now = now.value; last = now }))

@@ -1,8 +1,9 @@
 -- What the code answers says what the definitions' readings say; and a reading that is refused stays so.
 use Prim.Native.Nat.{ℕ, ◌-◌, ◌<◌, ◌≤◌}
 use Rattle.std.proofs.Common.{arith, ltb-false}
-use Rattle.std.specs.Prelude.{◌≡◌, refl, Bool, true, false, cond, List, ltb, length, Result, Ok, Err, IfErr}
+use Rattle.std.specs.Prelude.{◌≡◌, refl, Bool, true, false, cond, List, ltb, length, Result, Ok, Err, IfOk, IfErr}
 use borrow.Author.Tests.{lt-ltb}
+use Rattle.cursor.specs.Outcome.{by-test}
 use Rattle.std.proofs.lemmas.Result.{MatchResult-weaker}
 use Rattle.cursor.specs.Reading.{Reading, Step}
 use Rattle.cursor.specs.declared.FieldRead.{FieldRead}
@@ -81,6 +82,18 @@ module _ (number : ℕ) where
       both-by-test (ltb v low) _ _ _ _ P (λ _. refl) (λ _.
       both-by-test (ltb high v) _ _ _ _ P (λ _. refl) (λ _. refl))))
   field-after-is s n low high (Err d) known = rw (lt-ltb 0 d.number known) refl
+
+  -- what is read is at most high
+  pub field-after-small : (s : List ℕ) (n low high : ℕ) (o : Result FieldRead Refusal) → IfOk (field_after s n low high number o) (λ f. f.value ≤ high)
+  unfolding field_at
+  field-after-small s n low high (Ok f) =
+      let v = value_at s f.next n in
+      let P : Result FieldRead Refusal → Type 0 = λ o. IfOk o (λ f. f.value ≤ high) in
+      by-test (ltb (length s) n) _ _ P (λ _. tt) (λ _.
+      by-test (ltb (length s - n) f.next) _ _ P (λ _. tt) (λ _.
+      by-test (ltb v low) _ _ P (λ _. tt) (λ _.
+      by-test (ltb high v) _ _ P (λ _. tt) (λ few. ltb-false high v few))))
+  field-after-small s n low high (Err d) = tt
 
   pub rule-after-is : (ok : Bool) (place : ℕ) (o : Result FieldRead Refusal) → IfErr o (λ d. 0 < d.number) → rule_of ok number place (reading_of o) ≡ reading_of (ruled_after ok number place o)
   unfolding rule_of ruled

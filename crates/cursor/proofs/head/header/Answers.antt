@@ -66,7 +66,7 @@ returns-in_err-with_counts c =
     let r = stops read₀ 2 (length s) (length s) SIZE (omega arith) c.next_field-length.ensures _ _ c.with_counts.ensures c.in_err-with_counts.was in
     let jobs = field-stays (field-stays r.0 s 1 1 1 VERSION) s 1 0 32 COUNT in
     let resources = field-stays jobs s 1 0 32 COUNT in
-    handed c.from_residual.result c.from_residual.ensures.1 (heading-refused s c.if-bytes-lt9.false (field-stays resources s 4 0 2147483647 RANGE) (unread jobs r.1) (omega (arith, r.1)) (unread resources r.2))
+    handed c.from_residual.result c.from_residual.ensures.1 (heading-refused s c.if-bytes-lt9.false (field-stays resources s 4 0 2147483647 RANGE) (unread jobs r.1) (unread resources r.2))
 
 pub returns-in_err-with_counts-2 : goal.returns-in_err-with_counts-2
 returns-in_err-with_counts-2 c =
@@ -76,7 +76,7 @@ returns-in_err-with_counts-2 c =
     let r = stops read₁ 1 1 1 VERSION (omega arith) c.next_field-version.ensures _ _ c.with_counts-2.ensures c.in_err-with_counts-2.was in
     let jobs = field-stays r.0 s 1 0 32 COUNT in
     let resources = field-stays jobs s 1 0 32 COUNT in
-    handed c.from_residual-in_err-with_counts-2.result c.from_residual-in_err-with_counts-2.ensures.1 (heading-refused s c.if-bytes-lt9.false (field-stays resources s 4 0 2147483647 RANGE) (unread jobs r.1) (omega (arith, r.1)) (unread resources r.2))
+    handed c.from_residual-in_err-with_counts-2.result c.from_residual-in_err-with_counts-2.ensures.1 (heading-refused s c.if-bytes-lt9.false (field-stays resources s 4 0 2147483647 RANGE) (unread jobs r.1) (unread resources r.2))
 
 pub returns-in_err-job_count : goal.returns-in_err-job_count
 returns-in_err-job_count c =
@@ -86,7 +86,7 @@ returns-in_err-job_count c =
     let read₂ = then read₁ 1 1 1 VERSION (omega arith) c.next_field-version.ensures _ _ c.with_counts-2.ensures c.in_ok-with_counts-2.was in
     let r = stops read₂ 1 0 32 COUNT (omega arith) c.next_field-jobs.ensures _ _ c.with_counts-3.ensures c.in_err-job_count.was in
     let resources = field-stays r.0 s 1 0 32 COUNT in
-    handed c.from_residual-in_err-job_count.result c.from_residual-in_err-job_count.ensures.1 (heading-refused s c.if-bytes-lt9.false (field-stays resources s 4 0 2147483647 RANGE) (unread r.0 r.1) (omega (arith, r.1)) (unread resources r.2))
+    handed c.from_residual-in_err-job_count.result c.from_residual-in_err-job_count.ensures.1 (heading-refused s c.if-bytes-lt9.false (field-stays resources s 4 0 2147483647 RANGE) (unread r.0 r.1) (unread resources r.2))
 
 pub returns-in_err-resource_count : goal.returns-in_err-resource_count
 returns-in_err-resource_count c =
@@ -96,7 +96,7 @@ returns-in_err-resource_count c =
     let read₂ = then read₁ 1 1 1 VERSION (omega arith) c.next_field-version.ensures _ _ c.with_counts-2.ensures c.in_ok-with_counts-2.was in
     let read₃ = then read₂ 1 0 32 COUNT (omega arith) c.next_field-jobs.ensures _ _ c.with_counts-3.ensures c.in_ok-job_count.was in
     let r = stops read₃ 1 0 32 COUNT (omega arith) c.next_field-resources.ensures _ _ c.with_counts-4.ensures c.in_err-resource_count.was in
-    handed c.from_residual-in_err-resource_count.result c.from_residual-in_err-resource_count.ensures.1 (heading-refused s c.if-bytes-lt9.false (field-stays r.0 s 4 0 2147483647 RANGE) (ap (λ (x : Reading). x.value) read₃.0.0 ∙ r.1) (omega (arith, read₃.0.1, r.1)) (unread r.0 r.2))
+    handed c.from_residual-in_err-resource_count.result c.from_residual-in_err-resource_count.ensures.1 (heading-refused s c.if-bytes-lt9.false (field-stays r.0 s 4 0 2147483647 RANGE) (ap (λ (x : Reading). x.value) read₃.0.0 ∙ r.1) (unread r.0 r.2))
 
 pub returns-in_err-moment : goal.returns-in_err-moment
 returns-in_err-moment c =
@@ -107,7 +107,7 @@ returns-in_err-moment c =
     let read₃ = then read₂ 1 0 32 COUNT (omega arith) c.next_field-jobs.ensures _ _ c.with_counts-3.ensures c.in_ok-job_count.was in
     let read₄ = then read₃ 1 0 32 COUNT (omega arith) c.next_field-resources.ensures _ _ c.with_counts-4.ensures c.in_ok-resource_count.was in
     let r = stops read₄ 4 0 2147483647 RANGE (omega arith) c.next_field-now.ensures _ _ c.with_counts-5.ensures c.in_err-moment.was in
-    handed c.from_residual-in_err-moment.result c.from_residual-in_err-moment.ensures.1 (heading-refused s c.if-bytes-lt9.false r.0 (ap (λ (x : Reading). x.value) read₃.0.0 ∙ r.1) (omega (arith, read₃.0.1, r.1)) (ap (λ (x : Reading). x.value) read₄.0.0 ∙ r.2))
+    handed c.from_residual-in_err-moment.result c.from_residual-in_err-moment.ensures.1 (heading-refused s c.if-bytes-lt9.false r.0 (ap (λ (x : Reading). x.value) read₃.0.0 ∙ r.1) (ap (λ (x : Reading). x.value) read₄.0.0 ∙ r.2))
 
 pub returns : goal.returns
 returns c =
