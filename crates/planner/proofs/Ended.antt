@@ -5,8 +5,12 @@ use mathlib.Core.Path.{◌≡◌, refl, ap, sym, ◌∙◌}
 use mathlib.Core.List.{List, [], ◌∷◌}
 use Rattle.std.proofs.Common.{length, ltb, take, slice_get}
 use lib.ListN.{get_or}
-use Rattle.std.specs.Prelude.{Option, Result, Ok, Err}
+use Rattle.std.specs.Prelude.{Option, Some, None, Result, Ok, Err}
+use Rattle.std.specs.Borrow.{Bor}
+use Rattle.std.specs.Option.{option_copied}
+use Rattle.std.specs.Slice.{IsItemAt}
 use Rattle.std.proofs.Common.{lt-ltb, le-ltb}
+use Rattle.std.proofs.lemmas.Option.{slice_get_past, slice_get_read}
 use Rattle.std.proofs.lemmas.Result.{MatchResult-at_ok, MatchResult-at_err}
 use Rattle.cursor.specs.declared.Refusal.{Refusal}
 use Rattle.cursor.specs.Refusal.{KNOT}
@@ -30,6 +34,11 @@ use Rattle.planner.specs.Ends.{knot_in}
 use Rattle.planner.specs.Standing.{Accepted}
 use Rattle.planner.specs.Preparing.{PreparedFor}
 use Rattle.planner.specs.Answering.{plan_in, first_from, judged-accepted, refused-plan, refused-first, first-is}
+
+-- what stands at a place, copied
+pub copied-at : {X : Type 0} (xs : List X) (i : ℕ) (o : Option (Bor X)) → IsItemAt xs i o → option_copied o ≡ slice_get xs i
+copied-at xs i None at = sym (slice_get_past xs i at.3)
+copied-at xs i (Some x) at = sym (slice_get_read xs (length xs) i x.now refl at.3.0 at.1)
 
 -- the first of a row's parts in use
 copied-first : (ps : List Part) (n : ℕ) → 0 < length ps → ◌≡◌ {A = Result (Option Part) Refusal} (Ok (slice_get (take n ps) 0)) (first_told (record { number = 0; place = 0; some = ltb 0 n; part = get_or ps 0 empty_part }))

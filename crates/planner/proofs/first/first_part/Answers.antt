@@ -6,7 +6,7 @@ use Rattle.std.specs.Prelude.{length, take}
 use Rattle.std.specs.List.{slice_get}
 use Rattle.book.proofs.Stops.{by-err}
 use Rattle.planner.specs.Answering.{round-scanning, first_found}
-use Rattle.planner.proofs.Ended.{accepted, reader-first, knot-first, first-few, first-told}
+use Rattle.planner.proofs.Ended.{accepted, reader-first, knot-first, first-few, copied-at, first-told}
 use Rattle.planner.proofs.first.first_part.Goals as goal
 
 pub returns-in_err-j : goal.returns-in_err-j
@@ -34,5 +34,5 @@ returns c =
     let s = c.args.bytes.now in
     let p = c.in_ok-prepare.ensures in
     let long : length c.round-g.result.parts ≡ 32 = search rules in
-    let copied : c.copied.result ≡ slice_get (take c.round-g.result.count c.round-g.result.parts) 0 = c.copied.ensures ∙ c.first.ensures.value in
+    let copied : c.copied.result ≡ slice_get (take c.round-g.result.count c.round-g.result.parts) 0 = c.copied.ensures ∙ copied-at _ _ c.first.result c.first.ensures.item in
     rw copied (first-told s c.round-g.result (first_found s (accepted s c.judge.ensures c.in_ok-j.was) p.0 p.1 c.round-g.ensures refl) (omega arith))
