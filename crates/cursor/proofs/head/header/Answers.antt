@@ -19,7 +19,7 @@ use Rattle.cursor.specs.Field.{got_at, field_of}
 use Rattle.cursor.specs.Step.{place_after}
 use Rattle.cursor.specs.Answer.{field_at, got, Refused, Says, with_counts, Headed}
 use Rattle.cursor.proofs.Says.{field-follows, field-stays, at_ok, at_err}
-use Rattle.cursor.proofs.Heading.{counted, too_short, heading-refused, headed}
+use Rattle.cursor.proofs.Heading.{counted, too_short, length_read, version_read, jobs_read, resources_read, heading-refused, headed}
 use Rattle.cursor.proofs.head.header.Goals as goal
 
 -- a reader of the book s at a place
@@ -56,66 +56,84 @@ handed o e h = let p = err_from_is_err_and o e in rw (p.1, p.2) h
 unread : {r : Reading} {d : Refusal} {n : ℕ} → Refused r d → 0 ≡ n → r.value ≡ n
 unread met e = ap (λ (r : Reading). r.value) met.0 ∙ e
 
+-- The five fields one after the other, as the code has them: x is what the reader gives, and o the same beside the counts.
+-- Of each the refusal, and of all five the header.
+module _ {s : Bor (List ℕ)} (enough : 9 ≤ length s.now) {d : BookReader} (opened : Opened s 0 d) {x₁ : NextField} (gives₁ : Gives d 2 (length s.now) (length s.now) SIZE x₁) {o₁ : Result FieldRead HeaderRefused} (is₁ : o₁ ≡ with_counts 0 0 x₁.field) where
+  begun : Read s (got_at 0 0 0) (record { place = 0; next = 0; value = 0 }) 0 d
+  begun = ((refl, omega arith), opened)
+
+  -- what is refused before the counts leaves them unread
+  refused-early : {e : HeaderRefused} → Refused (version_read s.now) e.refusal → 0 ≡ e.jobs → 0 ≡ e.resources → Headed s.now (Err e)
+  refused-early r j k =
+      let jobs = field-stays r s.now 1 0 32 COUNT in
+      let resources = field-stays jobs s.now 1 0 32 COUNT in
+      heading-refused s.now enough (field-stays resources s.now 4 0 2147483647 RANGE) (unread jobs j) (unread resources k)
+
+  length-refused : {e : HeaderRefused} → o₁ ≡ Err e → Headed s.now (Err e)
+  length-refused was =
+      let r = stops begun 2 (length s.now) (length s.now) SIZE (omega arith) gives₁ 0 0 is₁ was in
+      refused-early (field-stays r.0 s.now 1 1 1 VERSION) r.1 r.2
+
+  module _ {f₁ : FieldRead} (was₁ : o₁ ≡ Ok f₁) {x₂ : NextField} (gives₂ : Gives x₁.rest 1 1 1 VERSION x₂) {o₂ : Result FieldRead HeaderRefused} (is₂ : o₂ ≡ with_counts 0 0 x₂.field) where
+    length-then : Read s (length_read s.now) f₁ (length s.now) x₁.rest
+    length-then = then begun 2 (length s.now) (length s.now) SIZE (omega arith) gives₁ 0 0 is₁ was₁
+
+    version-refused : {e : HeaderRefused} → o₂ ≡ Err e → Headed s.now (Err e)
+    version-refused was = let r = stops length-then 1 1 1 VERSION (omega arith) gives₂ 0 0 is₂ was in refused-early r.0 r.1 r.2
+
+    module _ {f₂ : FieldRead} (was₂ : o₂ ≡ Ok f₂) {x₃ : NextField} (gives₃ : Gives x₂.rest 1 0 32 COUNT x₃) {o₃ : Result FieldRead HeaderRefused} (is₃ : o₃ ≡ with_counts 0 0 x₃.field) where
+      version-then : Read s (version_read s.now) f₂ 1 x₂.rest
+      version-then = then length-then 1 1 1 VERSION (omega arith) gives₂ 0 0 is₂ was₂
+
+      jobs-refused : {e : HeaderRefused} → o₃ ≡ Err e → Headed s.now (Err e)
+      jobs-refused was =
+          let r = stops version-then 1 0 32 COUNT (omega arith) gives₃ 0 0 is₃ was in
+          let resources = field-stays r.0 s.now 1 0 32 COUNT in
+          heading-refused s.now enough (field-stays resources s.now 4 0 2147483647 RANGE) (unread r.0 r.1) (unread resources r.2)
+
+      module _ {f₃ : FieldRead} (was₃ : o₃ ≡ Ok f₃) {x₄ : NextField} (gives₄ : Gives x₃.rest 1 0 32 COUNT x₄) {o₄ : Result FieldRead HeaderRefused} (is₄ : o₄ ≡ with_counts f₃.value 0 x₄.field) where
+        jobs-then : Read s (jobs_read s.now) f₃ 32 x₃.rest
+        jobs-then = then version-then 1 0 32 COUNT (omega arith) gives₃ 0 0 is₃ was₃
+
+        jobs-are : (jobs_read s.now).value ≡ f₃.value
+        jobs-are = ap (λ (r : Reading). r.value) jobs-then.0.0
+
+        resources-refused : {e : HeaderRefused} → o₄ ≡ Err e → Headed s.now (Err e)
+        resources-refused was =
+            let r = stops jobs-then 1 0 32 COUNT (omega arith) gives₄ f₃.value 0 is₄ was in
+            heading-refused s.now enough (field-stays r.0 s.now 4 0 2147483647 RANGE) (jobs-are ∙ r.1) (unread r.0 r.2)
+
+        module _ {f₄ : FieldRead} (was₄ : o₄ ≡ Ok f₄) {x₅ : NextField} (gives₅ : Gives x₄.rest 4 0 2147483647 RANGE x₅) {o₅ : Result FieldRead HeaderRefused} (is₅ : o₅ ≡ with_counts f₃.value f₄.value x₅.field) where
+          resources-then : Read s (resources_read s.now) f₄ 32 x₄.rest
+          resources-then = then jobs-then 1 0 32 COUNT (omega arith) gives₄ f₃.value 0 is₄ was₄
+
+          now-refused : {e : HeaderRefused} → o₅ ≡ Err e → Headed s.now (Err e)
+          now-refused was =
+              let r = stops resources-then 4 0 2147483647 RANGE (omega arith) gives₅ f₃.value f₄.value is₅ was in
+              heading-refused s.now enough r.0 (jobs-are ∙ r.1) (ap (λ (r : Reading). r.value) resources-then.0.0 ∙ r.2)
+
+          all-read : {f₅ : FieldRead} → o₅ ≡ Ok f₅ → Headed s.now (Ok (record { jobs = f₃.value; resources = f₄.value; now = f₅.value; last = f₅ }))
+          all-read was =
+              let now-then = then resources-then 4 0 2147483647 RANGE (omega arith) gives₅ f₃.value f₄.value is₅ was in
+              headed s.now enough f₃ f₄ _ jobs-then.0 resources-then.0.0 now-then.0
+
 pub returns-then-bytes-lt9 : goal.returns-then-bytes-lt9
 returns-then-bytes-lt9 c = too_short c.args.s.now c.if-bytes-lt9.true
 
 pub returns-in_err-with_counts : goal.returns-in_err-with_counts
-returns-in_err-with_counts c =
-    let s = c.args.s.now in
-    let read₀ : Read c.args.s (got_at 0 0 0) (record { place = 0; next = 0; value = 0 }) 0 c.open_reader.result = ((refl, omega arith), c.open_reader.ensures) in
-    let r = stops read₀ 2 (length s) (length s) SIZE (omega arith) c.next_field-length.ensures _ _ c.with_counts.ensures c.in_err-with_counts.was in
-    let jobs = field-stays (field-stays r.0 s 1 1 1 VERSION) s 1 0 32 COUNT in
-    let resources = field-stays jobs s 1 0 32 COUNT in
-    handed c.from_residual.result c.from_residual.ensures.1 (heading-refused s c.if-bytes-lt9.false (field-stays resources s 4 0 2147483647 RANGE) (unread jobs r.1) (unread resources r.2))
+returns-in_err-with_counts c = handed c.from_residual.result c.from_residual.ensures.1 (length-refused c.if-bytes-lt9.false c.open_reader.ensures c.next_field-length.ensures c.with_counts.ensures c.in_err-with_counts.was)
 
 pub returns-in_err-with_counts-2 : goal.returns-in_err-with_counts-2
-returns-in_err-with_counts-2 c =
-    let s = c.args.s.now in
-    let read₀ : Read c.args.s (got_at 0 0 0) (record { place = 0; next = 0; value = 0 }) 0 c.open_reader.result = ((refl, omega arith), c.open_reader.ensures) in
-    let read₁ = then read₀ 2 (length s) (length s) SIZE (omega arith) c.next_field-length.ensures _ _ c.with_counts.ensures c.in_ok-with_counts.was in
-    let r = stops read₁ 1 1 1 VERSION (omega arith) c.next_field-version.ensures _ _ c.with_counts-2.ensures c.in_err-with_counts-2.was in
-    let jobs = field-stays r.0 s 1 0 32 COUNT in
-    let resources = field-stays jobs s 1 0 32 COUNT in
-    handed c.from_residual-in_err-with_counts-2.result c.from_residual-in_err-with_counts-2.ensures.1 (heading-refused s c.if-bytes-lt9.false (field-stays resources s 4 0 2147483647 RANGE) (unread jobs r.1) (unread resources r.2))
+returns-in_err-with_counts-2 c = handed c.from_residual-in_err-with_counts-2.result c.from_residual-in_err-with_counts-2.ensures.1 (version-refused c.if-bytes-lt9.false c.open_reader.ensures c.next_field-length.ensures c.with_counts.ensures c.in_ok-with_counts.was c.next_field-version.ensures c.with_counts-2.ensures c.in_err-with_counts-2.was)
 
 pub returns-in_err-job_count : goal.returns-in_err-job_count
-returns-in_err-job_count c =
-    let s = c.args.s.now in
-    let read₀ : Read c.args.s (got_at 0 0 0) (record { place = 0; next = 0; value = 0 }) 0 c.open_reader.result = ((refl, omega arith), c.open_reader.ensures) in
-    let read₁ = then read₀ 2 (length s) (length s) SIZE (omega arith) c.next_field-length.ensures _ _ c.with_counts.ensures c.in_ok-with_counts.was in
-    let read₂ = then read₁ 1 1 1 VERSION (omega arith) c.next_field-version.ensures _ _ c.with_counts-2.ensures c.in_ok-with_counts-2.was in
-    let r = stops read₂ 1 0 32 COUNT (omega arith) c.next_field-jobs.ensures _ _ c.with_counts-3.ensures c.in_err-job_count.was in
-    let resources = field-stays r.0 s 1 0 32 COUNT in
-    handed c.from_residual-in_err-job_count.result c.from_residual-in_err-job_count.ensures.1 (heading-refused s c.if-bytes-lt9.false (field-stays resources s 4 0 2147483647 RANGE) (unread r.0 r.1) (unread resources r.2))
+returns-in_err-job_count c = handed c.from_residual-in_err-job_count.result c.from_residual-in_err-job_count.ensures.1 (jobs-refused c.if-bytes-lt9.false c.open_reader.ensures c.next_field-length.ensures c.with_counts.ensures c.in_ok-with_counts.was c.next_field-version.ensures c.with_counts-2.ensures c.in_ok-with_counts-2.was c.next_field-jobs.ensures c.with_counts-3.ensures c.in_err-job_count.was)
 
 pub returns-in_err-resource_count : goal.returns-in_err-resource_count
-returns-in_err-resource_count c =
-    let s = c.args.s.now in
-    let read₀ : Read c.args.s (got_at 0 0 0) (record { place = 0; next = 0; value = 0 }) 0 c.open_reader.result = ((refl, omega arith), c.open_reader.ensures) in
-    let read₁ = then read₀ 2 (length s) (length s) SIZE (omega arith) c.next_field-length.ensures _ _ c.with_counts.ensures c.in_ok-with_counts.was in
-    let read₂ = then read₁ 1 1 1 VERSION (omega arith) c.next_field-version.ensures _ _ c.with_counts-2.ensures c.in_ok-with_counts-2.was in
-    let read₃ = then read₂ 1 0 32 COUNT (omega arith) c.next_field-jobs.ensures _ _ c.with_counts-3.ensures c.in_ok-job_count.was in
-    let r = stops read₃ 1 0 32 COUNT (omega arith) c.next_field-resources.ensures _ _ c.with_counts-4.ensures c.in_err-resource_count.was in
-    handed c.from_residual-in_err-resource_count.result c.from_residual-in_err-resource_count.ensures.1 (heading-refused s c.if-bytes-lt9.false (field-stays r.0 s 4 0 2147483647 RANGE) (ap (λ (x : Reading). x.value) read₃.0.0 ∙ r.1) (unread r.0 r.2))
+returns-in_err-resource_count c = handed c.from_residual-in_err-resource_count.result c.from_residual-in_err-resource_count.ensures.1 (resources-refused c.if-bytes-lt9.false c.open_reader.ensures c.next_field-length.ensures c.with_counts.ensures c.in_ok-with_counts.was c.next_field-version.ensures c.with_counts-2.ensures c.in_ok-with_counts-2.was c.next_field-jobs.ensures c.with_counts-3.ensures c.in_ok-job_count.was c.next_field-resources.ensures c.with_counts-4.ensures c.in_err-resource_count.was)
 
 pub returns-in_err-moment : goal.returns-in_err-moment
-returns-in_err-moment c =
-    let s = c.args.s.now in
-    let read₀ : Read c.args.s (got_at 0 0 0) (record { place = 0; next = 0; value = 0 }) 0 c.open_reader.result = ((refl, omega arith), c.open_reader.ensures) in
-    let read₁ = then read₀ 2 (length s) (length s) SIZE (omega arith) c.next_field-length.ensures _ _ c.with_counts.ensures c.in_ok-with_counts.was in
-    let read₂ = then read₁ 1 1 1 VERSION (omega arith) c.next_field-version.ensures _ _ c.with_counts-2.ensures c.in_ok-with_counts-2.was in
-    let read₃ = then read₂ 1 0 32 COUNT (omega arith) c.next_field-jobs.ensures _ _ c.with_counts-3.ensures c.in_ok-job_count.was in
-    let read₄ = then read₃ 1 0 32 COUNT (omega arith) c.next_field-resources.ensures _ _ c.with_counts-4.ensures c.in_ok-resource_count.was in
-    let r = stops read₄ 4 0 2147483647 RANGE (omega arith) c.next_field-now.ensures _ _ c.with_counts-5.ensures c.in_err-moment.was in
-    handed c.from_residual-in_err-moment.result c.from_residual-in_err-moment.ensures.1 (heading-refused s c.if-bytes-lt9.false r.0 (ap (λ (x : Reading). x.value) read₃.0.0 ∙ r.1) (ap (λ (x : Reading). x.value) read₄.0.0 ∙ r.2))
+returns-in_err-moment c = handed c.from_residual-in_err-moment.result c.from_residual-in_err-moment.ensures.1 (now-refused c.if-bytes-lt9.false c.open_reader.ensures c.next_field-length.ensures c.with_counts.ensures c.in_ok-with_counts.was c.next_field-version.ensures c.with_counts-2.ensures c.in_ok-with_counts-2.was c.next_field-jobs.ensures c.with_counts-3.ensures c.in_ok-job_count.was c.next_field-resources.ensures c.with_counts-4.ensures c.in_ok-resource_count.was c.next_field-now.ensures c.with_counts-5.ensures c.in_err-moment.was)
 
 pub returns : goal.returns
-returns c =
-    let s = c.args.s.now in
-    let read₀ : Read c.args.s (got_at 0 0 0) (record { place = 0; next = 0; value = 0 }) 0 c.open_reader.result = ((refl, omega arith), c.open_reader.ensures) in
-    let read₁ = then read₀ 2 (length s) (length s) SIZE (omega arith) c.next_field-length.ensures _ _ c.with_counts.ensures c.in_ok-with_counts.was in
-    let read₂ = then read₁ 1 1 1 VERSION (omega arith) c.next_field-version.ensures _ _ c.with_counts-2.ensures c.in_ok-with_counts-2.was in
-    let read₃ = then read₂ 1 0 32 COUNT (omega arith) c.next_field-jobs.ensures _ _ c.with_counts-3.ensures c.in_ok-job_count.was in
-    let read₄ = then read₃ 1 0 32 COUNT (omega arith) c.next_field-resources.ensures _ _ c.with_counts-4.ensures c.in_ok-resource_count.was in
-    let read₅ = then read₄ 4 0 2147483647 RANGE (omega arith) c.next_field-now.ensures _ _ c.with_counts-5.ensures c.in_ok-moment.was in
-    headed s c.if-bytes-lt9.false _ _ _ read₃.0 read₄.0.0 read₅.0
+returns c = all-read c.if-bytes-lt9.false c.open_reader.ensures c.next_field-length.ensures c.with_counts.ensures c.in_ok-with_counts.was c.next_field-version.ensures c.with_counts-2.ensures c.in_ok-with_counts-2.was c.next_field-jobs.ensures c.with_counts-3.ensures c.in_ok-job_count.was c.next_field-resources.ensures c.with_counts-4.ensures c.in_ok-resource_count.was c.next_field-now.ensures c.with_counts-5.ensures c.in_ok-moment.was
